@@ -1,6 +1,6 @@
 //! What a command runs on: files, standard input and output, and faults, each a line on standard error.
 
-ghost use Rattle.std.specs.Prelude.{◌≡◌, ◌<◌, ◌≤◌, ◌∷◌, ℕ, List, [], Ok, Some, IfErr, IfOk, IfSome, IsOkAnd, vec_len};
+ghost use Rattle.std.specs.Prelude.{◌≡◌, ◌⊎◌, ◌<◌, ◌≤◌, ◌∷◌, ℕ, List, [], Ok, Some, IfErr, IfOk, IfSome, IsOkAnd, vec_len};
 ghost use Rattle.stream80.specs.WholeText.{text_limit};
 ghost use Rattle.plm80_console.specs.Answer.{GaveUp, IsGiven, IsGivenUp, StopsWriting, and_files, files_of};
 ghost use Rattle.plm80_console.specs.Replaced.{GaveUpKeeping, IsReplacedKeeping, NotSettled, new_file_value};
@@ -94,6 +94,11 @@ pub trait Console {
     /// Prints an error of clap, or the help text that was asked for, on standard error.
     fn report_usage(&mut self, error: &clap::Error) -> Reported
         ensures { journal self.new ≡ and_reported (journal self.old) };
+
+    /// Prints an error of clap that blames the command line, or the help text that it asks for, on standard error, or that memory runs out
+    /// for it.
+    fn blame_usage(&mut self, error: &clap::Error) -> Reported
+        ensures { (journal self.new ≡ and_blamed (journal self.old)) ⊎ (journal self.new ≡ and_reported (journal self.old)) };
 
     /// Makes the console print words below the line of each fault from now on.
     fn explain_faults(&mut self)

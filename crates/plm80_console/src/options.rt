@@ -1,9 +1,10 @@
 //! The values of options: numbers and names.
 
-ghost use Rattle.std.specs.Prelude.{◌≡◌, map, unwrap_or, option_map, IfErr, IfOk, IfSome, IsSomeAnd, OnErr};
+ghost use Rattle.std.specs.Prelude.{◌≡◌, false, map, unwrap_or, option_map, All, IfErr, IfOk, IfSome, IsSomeAnd, IsTrue, OnErr};
 ghost use Rattle.clap.specs.Matches.{first_value, found_of};
+ghost use Rattle.omf_core.specs.Name.{is_name};
 ghost use Rattle.plm80_console.specs.NumberText.{IsByteText, IsCountText, IsLengthText, IsWordText, count_value, word_value};
-ghost use Rattle.plm80_console.specs.{Arguments.argument_text, Journal.and_blamed, Journal.and_reported};
+ghost use Rattle.plm80_console.specs.{Arguments.argument_text, Journal.Blames, Journal.and_blamed};
 
 use crate::argument_texts::argument_text;
 use crate::console::Console;
@@ -150,14 +151,16 @@ impl<'a> OptionText<'a> {
     /// The option's value as the name of a module. `BadName` is reported if it can't be one, and `Memory` if memory runs out.
     pub fn module_name<C: Console>(self, console: &mut C) -> Result<Name, Reported>
         ensures name { IfOk result (λ name. name ≡ self.entry.text.now) }
+        ensures taken { IfOk result (λ _. IsTrue (is_name self.entry.text.now)) }
         ensures unchanged { IfOk result (λ _. C.journal console.new ≡ C.journal console.old) }
-        ensures failed { IfErr result (λ _. C.journal console.new ≡ and_reported (C.journal console.old)) }
+        ensures failed { let text = self.entry.text.now in
+            IfErr result (λ _. Blames (is_name text ≡ false) (C.journal console.old) (C.journal console.new)) }
     {
         match Name::new(console.alloc(), self.text.as_bytes()) {
             Ok(name) => Ok(name),
             Err(NameFault::BadName) => {
                 let wanted = "1 to 255 characters, 21 to 7E, without a blank";
-                let reported = console.report("BadName");
+                let reported = console.blame("BadName");
                 self.explain(console, wanted);
                 Err(reported)
             }
@@ -165,17 +168,8 @@ impl<'a> OptionText<'a> {
         }
     }
 
-    /// Reports the fault `BadNumber` of the option's value; `wanted` says which form its number has.
-    pub fn report_number<C: Console>(self, console: &mut C, wanted: &str) -> Reported
-        ensures { C.journal console.new ≡ and_reported (C.journal console.old) }
-    {
-        let reported = console.report(BAD_NUMBER);
-        self.explain(console, wanted);
-        reported
-    }
-
-    /// Reports the fault `BadNumber` of the option's value, which writes no number of the form that is `wanted`.
-    fn blame_number<C: Console>(self, console: &mut C, wanted: &str) -> Reported
+    /// Reports the fault `BadNumber` of the option's value, which writes nothing of the form that is `wanted`.
+    pub fn blame_number<C: Console>(self, console: &mut C, wanted: &str) -> Reported
         ensures { C.journal console.new ≡ and_blamed (C.journal console.old) }
     {
         let reported = console.blame(BAD_NUMBER);
@@ -197,13 +191,15 @@ pub fn words_of<C: Console>(
     values: &[&str],
 ) -> Result<Vec<u16>, Reported>
     ensures words { IfOk result (λ words. words.items ≡ map (λ value. word_value value.now) values.now) }
+    ensures written { IfOk result (λ _. All (λ value. IsWordText value.now) values.now) }
     ensures unchanged { IfOk result (λ _. C.journal console.new ≡ C.journal console.old) }
-    ensures fault { IfErr result (λ _. C.journal console.new ≡ and_reported (C.journal console.old)) }
+    ensures fault { IfErr result (λ _. Blames (All (λ value. IsWordText value.now) values.now → ⊥) (C.journal console.old)
+        (C.journal console.new)) }
 {
     let mut words = Vec::new(console.alloc());
     for value in values {
         let Some(word) = word_of_digits(value) else {
-            return Err(OptionText::new(name, value).report_number(console, WORD_DIGITS));
+            return Err(OptionText::new(name, value).blame_number(console, WORD_DIGITS));
         };
         if words.push(word).is_err() {
             return Err(console.report_memory());

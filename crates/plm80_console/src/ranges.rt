@@ -1,7 +1,7 @@
 //! Ranges of addresses that options name.
 
-ghost use Rattle.std.specs.Prelude.{◌≡◌, map, IfErr, IfOk, IfSome};
-ghost use Rattle.plm80_console.specs.{Journal.and_reported, Ranges.AreRangesOf, Ranges.IsRangeText};
+ghost use Rattle.std.specs.Prelude.{◌≡◌, List, map, IfErr, IfNone, IfOk, IfSome};
+ghost use Rattle.plm80_console.specs.{Journal.Blames, Ranges.AreRangesOf, Ranges.IsRangeText};
 
 use crate::console::Console;
 use crate::number_text::{count_of_digits, word_of_digits};
@@ -18,14 +18,15 @@ pub fn ranges_of<C: Console>(
 ) -> Result<Vec<Range>, Reported>
     ensures ranges { IfOk result (λ ranges. AreRangesOf (map (λ value. value.now) values.now) ranges.items) }
     ensures unchanged { IfOk result (λ _. C.journal console.new ≡ C.journal console.old) }
-    ensures fault { IfErr result (λ _. C.journal console.new ≡ and_reported (C.journal console.old)) }
+    ensures fault { let texts = map (λ value. value.now) values.now in
+        IfErr result (λ _. Blames ((ranges : List Range) → AreRangesOf texts ranges → ⊥) (C.journal console.old) (C.journal console.new)) }
 {
     let mut ranges = Vec::new(console.alloc());
     for value in values {
         let Some(range) = range_of(value) else {
             let wanted =
                 "a first address, a colon and a length, of one to four hexadecimal digits each, up to FFFF";
-            return Err(OptionText::new(name, value).report_number(console, wanted));
+            return Err(OptionText::new(name, value).blame_number(console, wanted));
         };
         if ranges.push(range).is_err() {
             return Err(console.report_memory());
@@ -34,10 +35,11 @@ pub fn ranges_of<C: Console>(
     Ok(ranges)
 }
 
-/// The range that a text writes as a first address, a colon and a length; `None` for any other text, and if the range would end behind
-/// FFFF.
+/// The range that a text writes as a first address, a colon and a length; `None` exactly for any other text, and if the range would end
+/// behind FFFF.
 fn range_of(text: &str) -> Option<Range>
-    ensures { IfSome result (IsRangeText text.now) }
+    ensures range { IfSome result (IsRangeText text.now) }
+    ensures none { IfNone result ((range : Range) → IsRangeText text.now range → ⊥) }
 {
     let (first, length) = text.split_once(':')?;
     let first = word_of_digits(first)?;

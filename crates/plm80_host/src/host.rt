@@ -177,16 +177,23 @@ impl<'a> Console for HostConsole<'a> {
     }
 
     fn report_usage(&mut self, error: &clap::Error) -> Reported {
-        if error.kind() == clap::error::ErrorKind::OutOfMemory {
-            return self.report_memory();
+        match self.usage(error) {
+            Some(reported) => {
+                self.note(&Note::Reported);
+                reported
+            }
+            None => self.report_memory(),
         }
-        let Ok(text) = format!(in self.rt.alloc(); "{error}") else {
-            return self.report_memory();
-        };
-        let (text, rest) = without_tip(&text);
-        let reported = Reported::print(self.rt, format_args!("{text}{rest}"));
-        self.note(&Note::Reported);
-        reported
+    }
+
+    fn blame_usage(&mut self, error: &clap::Error) -> Reported {
+        match self.usage(error) {
+            Some(reported) => {
+                self.note(&Note::Blamed);
+                reported
+            }
+            None => self.report_memory(),
+        }
     }
 
     fn report_memory(&mut self) -> Reported {
@@ -252,6 +259,16 @@ impl<'a> HostConsole<'a> {
             Ok(file) => Ok(NotedReader::new(file)),
             Err(error) => Err(self.report_system(path, "Read", Some(kind_of(&error)))),
         }
+    }
+
+    /// Prints an error of clap on standard error, without what it advises; `None` if memory runs out for it.
+    fn usage(&self, error: &clap::Error) -> Option<Reported> {
+        if error.kind() == clap::error::ErrorKind::OutOfMemory {
+            return None;
+        }
+        let text = format!(in self.rt.alloc(); "{error}").ok()?;
+        let (text, rest) = without_tip(&text);
+        Some(Reported::print(self.rt, format_args!("{text}{rest}")))
     }
 
     /// Reports the fault of a path that names no file, and says below it how standard streams are named, or that it is empty.
