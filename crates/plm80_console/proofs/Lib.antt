@@ -3,4 +3,5 @@ mod JournalLemmas
 mod JoinedLemmas
 mod NumberLemmas
 mod PieceLemmas
+mod RangeLemmas
 mod SharedLemmas

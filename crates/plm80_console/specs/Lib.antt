@@ -9,6 +9,7 @@ pub mod JoinedValues
 pub mod Kinds
 pub mod Pieces
 pub mod NumberText
+pub mod NumberLaws
 pub mod Ranges
 pub mod Refusals
 pub mod SyntaxTable
