@@ -4,9 +4,10 @@
 //! |---|---|
 //! | [`list_reached`] | the lines alone |
 //! | [`cover`] | the lines with how often each instruction was begun, and the sums |
+//! | [`cover_instructions`] | the same of any table of instructions |
 
 mod covering;
 mod line;
 mod places;
 
-pub use covering::{cover, list_instructions, list_marked, list_reached};
+pub use covering::{cover, cover_instructions, list_instructions, list_marked, list_reached};

@@ -12,7 +12,7 @@
 //! | [`memory_bytes`] | the bytes of a memory |
 //! | [`laws`] | a run goes on from where it was stopped, as a contract |
 //! | [`list_reached`], [`list_instructions`], [`list_marked`] | the lines alone; those of any table of instructions; and with marks |
-//! | [`cover`] | the lines with how often each instruction was begun, and the sums |
+//! | [`cover`], [`cover_instructions`] | the lines with how often each instruction was begun, and the sums; those of any table |
 #![tactic(auto)]
 
 mod counting;
@@ -27,7 +27,7 @@ mod stepping;
 mod tracing;
 
 pub use counting::{Counts, count_at, count_steps};
-pub use covering::{cover, list_instructions, list_marked, list_reached};
+pub use covering::{cover, cover_instructions, list_instructions, list_marked, list_reached};
 pub use fault::TraceFault;
 pub use finishing::{Finished, finish};
 pub use limits::{Limits, Span};

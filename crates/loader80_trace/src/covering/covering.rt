@@ -14,7 +14,7 @@ use machine80::FlatBus;
 use std::alloc::{AllocError, Global};
 use std::fmt::Write;
 use text80::word_digits;
-use verify80::{Reached, find_reached};
+use verify80::find_reached;
 
 /// The lines of a vouched image's code, by address: one for each instruction that walks reach, as a listing has it,
 /// and the bytes of code that are in no such instruction as data, eight a line at most. Adjacent ranges of code count
@@ -125,8 +125,27 @@ pub fn cover(alloc: Global, vouched: &Vouched, counts: &[u64]) -> Result<Vec<u8>
     ensures { IfOk result (λ listed. CoversReached vouched.now.image counts.now listed.items) }
 {
     let reached = find_reached(alloc, vouched)?;
-    let mut lines = lines_of(alloc, vouched.image(), reached.instructions(), true, counts)?;
-    append_sums(alloc, &reached, counts, &mut lines)?;
+    cover_instructions(alloc, vouched.image(), reached.instructions(), counts)
+}
+
+/// The lines of [`list_instructions`], each instruction with its count in `counts`, or `-` if that is 0; and a last line
+/// `REACHED n OF m`: how many of the instructions have a count above 0. `counts` must have 65536 entries, one for each
+/// address.
+///
+/// # Errors
+/// `AllocError` only if memory runs out.
+pub fn cover_instructions(
+    alloc: Global,
+    image: &Image,
+    reached: &[Option<Fetched>],
+    counts: &[u64],
+) -> Result<Vec<u8>, AllocError>
+    requires { length counts.now ≡ 65536 }
+    ensures { IfOk result (λ listed. listed.items
+        ≡ cover_lines true counts.now image.now.regions (memory_of image.now.chunks) reached.now ++ sums_line counts.now reached.now) }
+{
+    let mut lines = lines_of(alloc, image, reached, true, counts)?;
+    append_sums(alloc, reached, counts, &mut lines)?;
     Ok(lines)
 }
 
@@ -219,7 +238,7 @@ fn append_line(
 /// `counts` must have 65536 entries.
 fn append_sums(
     alloc: Global,
-    reached: &Reached,
+    reached: &[Option<Fetched>],
     counts: &[u64],
     lines: &mut Vec<u8>,
 ) -> Result<(), AllocError>
@@ -234,19 +253,19 @@ fn append_sums(
     Ok(())
 }
 
-/// How many instructions walks reach.
-fn count_all(reached: &Reached) -> u64
+/// How many instructions are reached.
+fn count_all(reached: &[Option<Fetched>]) -> u64
     ensures { result ≡ tally (is_instruction reached.now) 0 65536 }
 {
     let mut count = 0;
     for at in 0..65536usize {
-        count += one_if(reached.at(at as u16).is_some());
+        count += one_if(reached_at(reached, at as u16).is_some());
     }
     count
 }
 
-/// How many of the instructions that walks reach have a count above 0. `counts` must have 65536 entries.
-fn count_begun(reached: &Reached, counts: &[u64]) -> u64
+/// How many of the instructions that are reached have a count above 0. `counts` must have 65536 entries.
+fn count_begun(reached: &[Option<Fetched>], counts: &[u64]) -> u64
     requires { length counts.now ≡ 65536 }
     ensures { result ≡ tally (is_begun counts.now reached.now) 0 65536 }
 {
@@ -257,14 +276,14 @@ fn count_begun(reached: &Reached, counts: &[u64]) -> u64
     count
 }
 
-/// Whether walks reach an instruction at the address, and its count is above 0. `at` must be below 65536, and `counts`
+/// Whether an instruction is reached at the address, and its count is above 0. `at` must be below 65536, and `counts`
 /// must have 65536 entries.
-fn is_begun(reached: &Reached, counts: &[u64], at: usize) -> bool
+fn is_begun(reached: &[Option<Fetched>], counts: &[u64], at: usize) -> bool
     requires whole { length counts.now ≡ 65536 }
     requires inside { at < 65536 }
     ensures { result ≡ is_begun counts.now reached.now at }
 {
-    reached.at(at as u16).is_some() && counts[at] > 0
+    reached_at(reached, at as u16).is_some() && counts[at] > 0
 }
 
 /// 1 for true, 0 for false.
