@@ -1,8 +1,8 @@
 -- What each request is, and what is done for it. (The commands and their statuses are this project's own.)
 use Rattle.std.specs.Prelude.{◌≡◌, ◌⊎◌, ℕ, Bool, true, false, List, [], ◌∷◌, ◌++◌, None, Some, Option, String, map, codes, string_bytes}
 use Rattle.std.specs.Str.{bytes_eq}
-use Rattle.clap.specs.{declared.parser.matches.ArgMatches.ArgMatches, Matches.first_value, Matches.found_of, Simple.subcommand_of, Walk.Row, Walk.rows_of}
-use Rattle.plm80_console.specs.Journal.{Journal, and_reported}
+use Rattle.clap.specs.{declared.parser.matches.ArgMatches.ArgMatches, Matches.first_value, Matches.found_of, Simple.subcommand_of, Takes.takes, Walk.Row, Walk.rows_of}
+use Rattle.plm80_console.specs.Journal.{Blames, Journal}
 use Rattle.plm80_console.specs.{Answer.Gives, Answer.GivesUp, Arguments.argument_text}
 use Rattle.plm80_boards.specs.Boards.{WithBoard, board_paths}
 use Rattle.plm80_names.specs.{Arguments.asks_names, Arguments.program_paths, Verdict.AnswersProgram}
@@ -24,6 +24,7 @@ use Rattle.plm80_programs.specs.Explanations.{PrintsExplanation}
 use Rattle.plm80_regions.specs.Suggest.{AnswersAdvice, AreSuggestArguments}
 use Rattle.plm80_regions.specs.Written.{AnswersRegions}
 use Rattle.plm80.specs.{Apart.AreApartIn, CommandLine.joined_words, CommandLine.plm80_app, declared.commands.arguments.Request.Request}
+use Rattle.plm80.specs.declared.commands.arguments.NoRequest.{NoRequest, TheVariants.Files, TheVariants.Words}
 use Rattle.plm80.specs.declared.commands.arguments.Request.TheVariants as request
 
 -- its name on the command line
@@ -92,6 +93,11 @@ pub record IsRequestOf (read : Option (List ℕ × List Row)) (request : Request
   pub are : AreArgumentsOf arguments request
   pub apart : AreApartIn arguments request
 
+-- whether clap doesn't take the words
+abbrev pub is_of_words : NoRequest → Bool
+is_of_words (Words error) = true
+is_of_words (Files error) = false
+
 -- it is done: its files were read, its answer was given, and the status is the answer's
 abbrev pub IsPerformed : Request → (old new : Journal) → (status : ℕ) → Type 0
 IsPerformed (request.Link arguments) old new status = Gives (LinksFiles arguments) (map (λ path. path.now) arguments.files.items) old new status
@@ -154,9 +160,10 @@ IsFailed (request.Report arguments) old new = GivesUp (AnswersProgram (AnswersPa
 abbrev pub IsDone : Request → (old new : Journal) → (status : ℕ) → Type 0
 IsDone request old new status = IsPerformed request old new status ⊎ ((status ≡ 2) × IsFailed request old new)
 
--- what comes of a command line of these words: help or what is wrong with it was printed; or the request that they spell is done
+-- what comes of a command line of these words: help or what is wrong with them was printed, which blames them only if clap doesn't take
+-- them; or the request that they spell is done
 abbrev pub IsCommandDone : (words : List (List ℕ)) → (old new : Journal) → (status : ℕ) → Type 0
-IsCommandDone words old new status = ((status ≡ 2) × (new ≡ and_reported old))
+IsCommandDone words old new status = ((status ≡ 2) × Blames (takes plm80_app (joined_words words) ≡ false) old new)
     ⊎ ((request : Request) × IsRequestOf (subcommand_of plm80_app (joined_words words)) request × IsDone request old new status)
 
 -- the program's name alone, or `--why` alone behind it, asks for a bundle; every other command line for a command

@@ -9,7 +9,7 @@ mod arguments;
 mod joined_words;
 mod program_syntax;
 
-use arguments::{Request, read_arguments};
+use arguments::{NoRequest, Request, read_arguments};
 use joined_words::joined_words;
 use plm80_console::{Console, Reported, exit_code};
 use plm80_objects::{
@@ -38,7 +38,8 @@ pub fn run_command<C: Console>(console: &mut C, arguments: &[String]) -> ExitCod
     };
     let (request, why) = match read_arguments(console, &words) {
         Ok(asked) => asked,
-        Err(error) => return console.report_usage(&error).status(),
+        Err(NoRequest::Words(error)) => return console.blame_usage(&error).status(),
+        Err(NoRequest::Files(error)) => return console.report_usage(&error).status(),
     };
     explain_if(console, why);
     do_request(console, request)

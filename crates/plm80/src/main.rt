@@ -11,7 +11,7 @@
 ghost use Rattle.std.specs.Prelude.{◌≡◌, ◌<◌, ◌≤◌, true, false, length, map, string_bytes, IfErr, IfOk};
 ghost use Rattle.std.specs.Process.{exit_status};
 ghost use Rattle.loader80_text.specs.{Bundle.BundleSends, Bundle.bundle_limit, BundleText.bundle_texts};
-ghost use Rattle.plm80.specs.Bundles.{GivesBundle, GivesUpBundle, IsBundleDone, bundle_status};
+ghost use Rattle.plm80.specs.Bundles.{GivesBundle, GivesUpBundle, IsBundleDone, and_fault, bundle_status};
 ghost use Rattle.plm80.specs.Requests.{IsCommandDone, asks_bundle};
 
 mod bundle_words;
@@ -111,10 +111,25 @@ fn transcribe<C: Console>(console: &mut C) -> Result<u8, Reported>
             Ok(status)
         }
         Err(fault) => {
-            let reported = console.report(fault);
+            let reported = report_bundle(console, fault);
             explain_bundle(console, fault, &text, failure);
             Err(reported)
         }
+    }
+}
+
+/// Reports the fault of a bundle.
+fn report_bundle<C: Console>(console: &mut C, fault: BundleFault) -> Reported
+    ensures { C.journal console.new ≡ and_fault (C.journal console.old) fault }
+{
+    match fault {
+        BundleFault::Session(
+            SessionFault::Read(_)
+            | SessionFault::Write
+            | SessionFault::Memory
+            | SessionFault::TooLong(_),
+        ) => console.report(fault),
+        _ => console.blame(fault),
     }
 }
 

@@ -1,9 +1,9 @@
 //! The command line, read by clap.
 
-ghost use Rattle.std.specs.Prelude.{◌≡◌, ◌⊎◌, false, None, codes, map, string_bytes, IfOk, IfErr, IfSome, OnOk};
-ghost use Rattle.clap.specs.{Matches.has_subcommand, Simple.subcommand_of, Simple.subcommand_rows_of, Values.kind_of};
+ghost use Rattle.std.specs.Prelude.{◌≡◌, ◌⊎◌, false, true, None, codes, map, string_bytes, IfOk, IfErr, IfSome, OnOk};
+ghost use Rattle.clap.specs.{Matches.has_subcommand, Simple.HasMatchesOf, Simple.subcommand_of, Simple.subcommand_rows_of, Takes.takes, Values.kind_of};
 ghost use Rattle.plm80_console.specs.Refusals.{IsConflict};
-ghost use Rattle.plm80.specs.{Apart.AreApartIn, CommandLine.plm80_app, Requests.AreArgumentsOf, Requests.IsRequestOf, Requests.command_name};
+ghost use Rattle.plm80.specs.{Apart.AreApartIn, CommandLine.plm80_app, Requests.AreArgumentsOf, Requests.IsRequestOf, Requests.command_name, Requests.is_of_words};
 
 use super::program_syntax::{program, shown_error};
 use clap::error::ErrorKind;
@@ -55,23 +55,46 @@ pub enum Request<'a> {
     Report(ReportArguments<'a>),
 }
 
+/// Why a command line asks for nothing that can be done, as clap prints it.
+#[derive(Drop)]
+pub enum NoRequest {
+    /// clap doesn't take its words: they are no command's, or ask for help.
+    Words(Error),
+    /// A file would be written that is read, or written twice; or memory ran out.
+    Files(Error),
+}
+
 /// Reads the words of a command line, as `joined_words` gives them, of which the first is the program's own name: its command, and whether
 /// `--why` asks for words about faults. The error is one of clap, or the help text if that is asked for.
 pub fn read_arguments<'a, C: Console>(
     console: &C,
     words: &'a [String],
-) -> Result<(Request<'a>, bool), Error>
-    ensures { IfOk result (λ asked. IsRequestOf (subcommand_of plm80_app (map string_bytes words.now)) asked.0) }
+) -> Result<(Request<'a>, bool), NoRequest>
+    ensures request { IfOk result (λ asked. IsRequestOf (subcommand_of plm80_app (map string_bytes words.now)) asked.0) }
+    ensures untaken { IfErr result (λ why. is_of_words why ≡ true → takes plm80_app (map string_bytes words.now) ≡ false) }
 {
     let alloc = console.alloc();
-    let matches = match program(alloc, "")?.try_get_matches_from(words) {
+    let matches = match matches_of(alloc, words) {
         Ok(matches) => matches,
-        Err(error) => return Err(shown_error(alloc, words, error)),
+        Err(error) if error.kind() == ErrorKind::OutOfMemory => return Err(NoRequest::Files(error)),
+        Err(error) => return Err(NoRequest::Words(shown_error(alloc, words, error))),
     };
-    match asked_for(console, &matches)? {
-        Some(request) => Ok((request, is_explained(&matches))),
-        None => Err(refusal(alloc, ErrorKind::MissingSubcommand, "no command")),
+    match asked_for(console, &matches) {
+        Ok(Some(request)) => Ok((request, is_explained(&matches))),
+        Ok(None) => {
+            let error = refusal(alloc, ErrorKind::MissingSubcommand, "no command");
+            Err(NoRequest::Files(error))
+        }
+        Err(error) => Err(NoRequest::Files(error)),
     }
+}
+
+/// What clap reads in these words. The error is one of clap.
+fn matches_of(alloc: Global, words: &[String]) -> Result<ArgMatches<'_>, Error>
+    ensures matches { IfOk result (HasMatchesOf plm80_app (map string_bytes words.now)) }
+    ensures passes { IfErr result (λ error. takes plm80_app (map string_bytes words.now) ≡ true → kind_of error ≡ ErrorKind.OutOfMemory) }
+{
+    program(alloc, "")?.try_get_matches_from(words)
 }
 
 /// Whether `--why` behind the command's name asks for words about faults; `false` without a command.
