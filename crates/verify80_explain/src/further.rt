@@ -228,7 +228,8 @@ impl<'a, 'b> Conditioning<'a, 'b> {
         Ok(refused)
     }
 
-    /// The same from the address with this number; adds to `refused` the entries of procedures that are refused and don't return.
+    /// Searches from the address with this number, adds the conditions of instructions, appends the refusals that are new to `candidates`,
+    /// and adds the entries of procedures that are refused and don't return to `refused`.
     fn look_from(
         &mut self,
         alloc: Global,
@@ -241,7 +242,7 @@ impl<'a, 'b> Conditioning<'a, 'b> {
         self.look_by(alloc, &conditions, &search, candidates, refused)
     }
 
-    /// The same by a search on these conditions.
+    /// Adds the conditions of instructions, the refusals and the entries that a search on these conditions has found.
     fn look_by(
         &mut self,
         alloc: Global,
