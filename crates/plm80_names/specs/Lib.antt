@@ -5,4 +5,5 @@ pub mod Arguments
 pub mod Places
 pub mod Fronts
 pub mod FrontLaws
+pub mod Blaming
 pub mod VerdictLaws
