@@ -6,4 +6,5 @@ pub mod Places
 pub mod Fronts
 pub mod FrontLaws
 pub mod Blaming
+pub mod BlamingLaws
 pub mod VerdictLaws

@@ -1,14 +1,12 @@
 -- What follows for what is answered of an image and its regions that were read: laws that hold whatever the answers are. (This project's own.)
-use Rattle.std.specs.Prelude.{◌≡◌, ℕ, Bool, List, [], ◌∷◌, ◌++◌, Result, Ok, Err, IfOk, IfErr, IsOkAnd, length, slice_index_or}
-use Rattle.std.proofs.Common.{refl, ap, subst, sym, append-nil, ◌∙◌}
+use Rattle.std.specs.Prelude.{◌≡◌, ℕ, Bool, List, [], ◌∷◌, ◌++◌, Result, Ok, IfOk, IfErr, IsOkAnd, slice_index_or}
+use Rattle.std.proofs.Common.{refl, ap, subst, sym, ◌∙◌}
 use Rattle.omf_model.specs.declared.symbols.Public.{Public}
 use Rattle.image80.specs.{Image.Located, Regions.Areas, RegionsText.Spells}
 use Rattle.plm80_console.specs.Answer.{AnswerValue, Gives, GivesUp, IsAnswered, IsGiven, IsGivenUp, NoAnswer}
-use Rattle.plm80_console.specs.Answer.GivesUp.{unanswered}
 use Rattle.plm80_console.specs.AnswerLaws.{GivesOrGivesUp, answered_if_made, given_up_if_made, gives_up_unanswered, part_given, part_given_up}
-use Rattle.plm80_console.specs.Journal.{FileValue, Journal, OnlyBlames, and_blamed, and_read, file_value, paths_of}
-use Rattle.plm80_names.specs.Blaming.{GivesUpOrBlames}
-use Rattle.plm80_names.specs.Blaming.GivesUpOrBlames.{given_up, wrong}
+use Rattle.plm80_console.specs.Journal.{FileValue, Journal, OnlyBlames, and_read, file_value}
+use Rattle.plm80_names.specs.{Blaming.GivesUpOrBlames, BlamingLaws.part_given_up_or_blamed}
 use Rattle.plm80_names.specs.Verdict.{AnswersProgram, AreOfNone, HaveNoProgram, IsProgramRead}
 
 -- the same bytes of the first two files
@@ -35,12 +33,6 @@ no_program Answers files lacks others answer named is =
 pub gives_up_program : (Answers : Located → List Public → AnswerValue → Type 0) {asked : Bool} {paths : List (List ℕ)} {old new : Journal}
     → OnlyBlames (HaveNoProgram asked) paths old new → GivesUp (AnswersProgram Answers asked) paths old new
 gives_up_program Answers {asked = asked} blames = gives_up_unanswered (AnswersProgram Answers asked) (no_program Answers) blames
-
--- two files were read, and there is no third
-no_third : (first second : FileValue) (others : List FileValue) (paths : List (List ℕ)) → paths_of ((first ∷ second ∷ []) ++ others) ≡ paths
-    → length paths ≡ 2 → others ≡ []
-no_third first second [] paths named two = refl
-no_third first second (other ∷ others) paths named two = absurd (omega (ap length named, two))
 
 module _ {image_path regions_path : List ℕ} {asked : Bool} {old between : Journal} {image : Located} {publics : List Public}
     (read : IsProgramRead image_path regions_path asked old between image publics) (new : Journal) where
@@ -113,11 +105,6 @@ module _ {image_path regions_path : List ℕ} {asked : Bool} {old between : Jour
           → (Wrong → (answer : AnswerValue) → More program_files answer → ⊥)
           → IfErr r (λ _. GivesUpOrBlames Wrong (Answers image publics) between new)
           → IfErr r (λ _. GivesUp More (image_path ∷ regions_path ∷ []) first new)
-      more_given_up_or_blamed (Ok status) none up = tt
-      more_given_up_or_blamed (Err e) none (given_up gave) = more_given_up (Err e) gave
-      more_given_up_or_blamed (Err e) none (wrong w is) =
-          unanswered program_files [] refl
-          (λ others answer named answers. none w answer
-          (subst (λ (fs : List FileValue). More fs answer) (ap (λ (os : List FileValue). program_files ++ os)
-          (no_third _ _ others (image_path ∷ regions_path ∷ []) named refl) ∙ append-nil program_files) answers))
-          (is ∙ ap and_blamed journal_is)
+      more_given_up_or_blamed r none up =
+          part_given_up_or_blamed More (image_path ∷ regions_path ∷ []) first between new program_files refl journal_is (Answers image publics)
+          (λ answer answers. more program_files answer (answers_program answer answers)) none r up
