@@ -5,4 +5,6 @@ pub mod Arguments
 pub mod Places
 pub mod Fronts
 pub mod FrontLaws
+pub mod Blaming
+pub mod BlamingLaws
 pub mod VerdictLaws

@@ -1,11 +1,12 @@
 -- What follows for what is answered of an image and its regions that were read: laws that hold whatever the answers are. (This project's own.)
 use Rattle.std.specs.Prelude.{◌≡◌, ℕ, Bool, List, [], ◌∷◌, ◌++◌, Result, Ok, IfOk, IfErr, IsOkAnd, slice_index_or}
-use Rattle.std.proofs.Common.{refl, ap, subst, ◌∙◌}
+use Rattle.std.proofs.Common.{refl, ap, subst, sym, ◌∙◌}
 use Rattle.omf_model.specs.declared.symbols.Public.{Public}
-use Rattle.image80.specs.Image.{Located}
+use Rattle.image80.specs.{Image.Located, Regions.Areas, RegionsText.Spells}
 use Rattle.plm80_console.specs.Answer.{AnswerValue, Gives, GivesUp, IsAnswered, IsGiven, IsGivenUp, NoAnswer}
 use Rattle.plm80_console.specs.AnswerLaws.{GivesOrGivesUp, answered_if_made, given_up_if_made, gives_up_unanswered, part_given, part_given_up}
 use Rattle.plm80_console.specs.Journal.{FileValue, Journal, OnlyBlames, and_read, file_value}
+use Rattle.plm80_names.specs.{Blaming.GivesUpOrBlames, BlamingLaws.part_given_up_or_blamed}
 use Rattle.plm80_names.specs.Verdict.{AnswersProgram, AreOfNone, HaveNoProgram, IsProgramRead}
 
 -- the same bytes of the first two files
@@ -50,6 +51,15 @@ module _ {image_path regions_path : List ℕ} {asked : Bool} {old between : Jour
       answers = answers;
     }
 
+    -- the text of the regions spells no others
+    pub same_regions : ((text : List ℕ) (areas others : Areas) → Spells text areas → Spells text others → areas ≡ others) → (answer : AnswerValue)
+        → (is : AnswersProgram Answers asked program_files answer) → is.image.regions ≡ image.regions
+    same_regions one answer is =
+        one read.text is.image.regions image.regions
+        (subst (λ (f : FileValue). Spells f.bytes is.image.regions) (sym (ap (λ (fs : List FileValue). slice_index_or fs 1 is.regions_file) is.files_are))
+        is.are_read.regions)
+        read.are_read.regions
+
     pub program_answered : {E : Type 0} (r : Result ℕ E) → IfOk r (IsAnswered (Answers image publics) between new)
         → IfOk r (Gives (AnswersProgram Answers asked) (image_path ∷ regions_path ∷ []) old new)
     program_answered r gave =
@@ -89,3 +99,12 @@ module _ {image_path regions_path : List ℕ} {asked : Bool} {old between : Jour
       more_given_up r up =
           part_given_up More (image_path ∷ regions_path ∷ []) first between new program_files refl journal_is (Answers image publics)
           (λ answer answers. more program_files answer (answers_program answer answers)) r up
+
+      -- or arguments or files were blamed, to which there is no such answer
+      pub more_given_up_or_blamed : {E : Type 0} {Wrong : Type 0} (r : Result ℕ E)
+          → (Wrong → (answer : AnswerValue) → More program_files answer → ⊥)
+          → IfErr r (λ _. GivesUpOrBlames Wrong (Answers image publics) between new)
+          → IfErr r (λ _. GivesUp More (image_path ∷ regions_path ∷ []) first new)
+      more_given_up_or_blamed r none up =
+          part_given_up_or_blamed More (image_path ∷ regions_path ∷ []) first between new program_files refl journal_is (Answers image publics)
+          (λ answer answers. more program_files answer (answers_program answer answers)) none r up

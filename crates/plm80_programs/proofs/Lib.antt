@@ -1,3 +1,4 @@
+mod BlamedLemmas
 mod FollowLemmas
 mod FurtherLemmas
 mod Names

@@ -15,7 +15,7 @@ use Rattle.verify80_follow_search.specs.declared.stop.StopReason.TheVariants.{Fe
 use Rattle.verify80_follow_search.specs.declared.stop.StopReason.TheVariants.{LeavesStack, UnknownReturn, UnknownJump, UnknownPointer, NotGivenBack}
 use Rattle.verify80_follow_search.specs.declared.stop.StopReason.TheVariants.{EnablesEarly, UsesPointer, StoresQuiet, NoRoom, TooManyStates, Unfit}
 use Rattle.board80.specs.declared.line.Line.{Line}
-use Rattle.plm80_boards.specs.{Boards.interrupts_in, Quiet.AreInRam}
+use Rattle.plm80_boards.specs.{Boards.AreInterruptsIn, Boards.interrupts_in, Quiet.AreInRam}
 use Rattle.plm80_console.specs.{Answer.AnswerValue, Answer.prints, Journal.FileValue, Ranges.AreRangesOf}
 use Rattle.plm80_names.specs.{Verdict.AnswersProgram, Arguments.asks_names}
 use Rattle.plm80_programs.specs.declared.finding.Followed.{Followed}
@@ -114,5 +114,6 @@ pub record AnswersFollowing (arguments : FollowArguments) (board : Option (List 
   pub named : List Range
   pub addresses : List ℕ
   pub written : AreRangesOf (map (λ range. range.now) arguments.quiet.items) named
+  pub handlers_written : AreInterruptsIn board arguments.handlers.items
   pub handlers : interrupts_in board arguments.handlers.items ≡ addresses
   pub is : AnswersProgram (PrintsFollowedOn board named arguments.interrupted addresses arguments.lists) (asks_names arguments.files) files answer

@@ -1,6 +1,6 @@
 -- What commands print of an image, and their exit statuses. (The texts are those of the crates below; that a refusal is printed alone,
 -- with status 1, is this project's own.)
-use Rattle.std.specs.Prelude.{◌≡◌, ◌<◌, ◌==◌, ◌&&◌, ℕ, Bool, true, false, List, [], Option, None, All, codes, length, map, slice_index_or, if◌then◌else◌}
+use Rattle.std.specs.Prelude.{◌≡◌, ◌<◌, ◌==◌, ◌&&◌, ℕ, Bool, true, false, List, [], Option, None, Some, All, codes, length, map, slice_index_or, if◌then◌else◌}
 use Rattle.omf_model.specs.declared.symbols.Public.{Public}
 use Rattle.decode80.specs.declared.fetching.Fetched.{Fetched}
 use Rattle.image80.specs.{declared.range.Range.Range, Image.Located, Range.in_range, Regions.Areas, Regions.in_code, Regions.in_data}
@@ -110,6 +110,11 @@ pub record ListsStores (quiet : List Range) (publics : List Public) (program : V
 -- each address of a range is data
 abbrev pub IsAllData : Areas → Range → Type 0
 IsAllData regions range = (at : ℕ) → at < 65536 → in_range range at ≡ true → in_data regions at ≡ true
+
+-- the ranges that the options name are data; on a board they name none
+abbrev pub AreNamedData : Option (List Line) → Areas → (named : List Range) → Type 0
+AreNamedData None regions named = All (IsAllData regions) named
+AreNamedData (Some board) regions named = Unit {0}
 
 -- the quiet ranges are data; the stores are listed, or the refusal
 pub record PrintsStores (quiet : List Range) (image : Located) (publics : List Public) (answer : AnswerValue) : Type 0 where

@@ -1,13 +1,13 @@
 //! `plm80 follow`: a program followed by what is known of each byte of its stack.
 
-ghost use Rattle.std.specs.Prelude.{◌≡◌, ◌++◌, IfErr, IfOk, [], codes, length};
+ghost use Rattle.std.specs.Prelude.{◌≡◌, ◌++◌, All, IfErr, IfOk, [], codes, length};
 ghost use Rattle.plm80_boards.specs.Boards.{WithBoard, board_paths};
 ghost use Rattle.plm80_console.specs.{Answer.Gives, Answer.GivesUp, Answer.IsAnswered, Answer.IsGivenUp};
 ghost use Rattle.image80_text.specs.NameText.{named_text};
-ghost use Rattle.plm80_names.specs.Arguments.{program_paths};
+ghost use Rattle.plm80_names.specs.{Arguments.program_paths, Blaming.GivesUpOrBlames};
 ghost use Rattle.verify80_follow.specs.FollowText.{bounds_lines, live_lines, ways_lines};
 ghost use Rattle.plm80_programs.specs.Arguments.{AreFollowArguments};
-ghost use Rattle.plm80_programs.specs.Printed.{stores_lines};
+ghost use Rattle.plm80_programs.specs.Printed.{AreNamedData, IsAllData, stores_lines};
 ghost use Rattle.plm80_programs.specs.Following.{AnswersFollowing, PrintsFollowed, PrintsFollowedOn, PrintsTable, PrintsWithRam, SaysFollowed, followed_lines, listing_lines};
 
 use crate::finding::{FollowedAll, LiveTables, find_all};
@@ -16,6 +16,7 @@ use crate::stores::{require_data, stores_lines};
 use board80::Board;
 use clap::ArgMatches;
 use decode80::Fetched;
+use image80::laws::text_of_regions_is_read_as_itself;
 use image80::{Image, Range};
 use loader80_trace::list_instructions;
 use plm80_boards::{BOARD, GivenBoard, board_path, quiet_outside};
@@ -184,6 +185,7 @@ fn follow_on_board<C: Console>(
         (C.journal console.old) (C.journal console.new)) }
 {
     faults_follow_reading();
+    text_of_regions_is_read_as_itself();
     let named = ranges_of(console, "quiet-ram", &arguments.quiet)?;
     let handlers = board.interrupts(console, "handler", &arguments.handlers)?;
     let files = arguments.files;
@@ -236,8 +238,9 @@ fn print_on_board<C: Console>(
 ) -> Result<u8, Reported>
     ensures done { let way = asked.entry in IfOk result (IsAnswered (PrintsFollowedOn board.now.board way.quiet.now way.interrupted way.handlers.now way.lists
         image.now names.now) (C.journal console.old) (C.journal console.new)) }
-    ensures fault { let way = asked.entry in IfErr result (λ _. IsGivenUp (PrintsFollowedOn board.now.board way.quiet.now way.interrupted way.handlers.now
-        way.lists image.now names.now) (C.journal console.old) (C.journal console.new)) }
+    ensures fault { let way = asked.entry in IfErr result (λ _. GivesUpOrBlames (AreNamedData board.now.board image.now.regions way.quiet.now → ⊥)
+        (PrintsFollowedOn board.now.board way.quiet.now way.interrupted way.handlers.now way.lists image.now names.now)
+        (C.journal console.old) (C.journal console.new)) }
 {
     match &board.board {
         None => print_followed(console, image, names, texts, asked),
@@ -313,7 +316,8 @@ fn print_followed<C: Console>(
     asked: Asked<'_>,
 ) -> Result<u8, Reported>
     ensures done { IfOk result (IsAnswered (PrintsFollowed asked.entry.quiet.now asked.entry.interrupted asked.entry.handlers.now asked.entry.lists image.now names.now) (C.journal console.old) (C.journal console.new)) }
-    ensures fault { IfErr result (λ _. IsGivenUp (PrintsFollowed asked.entry.quiet.now asked.entry.interrupted asked.entry.handlers.now asked.entry.lists image.now names.now) (C.journal console.old) (C.journal console.new)) }
+    ensures fault { let way = asked.entry in IfErr result (λ _. GivesUpOrBlames (All (IsAllData image.now.regions) way.quiet.now → ⊥)
+        (PrintsFollowed way.quiet.now way.interrupted way.handlers.now way.lists image.now names.now) (C.journal console.old) (C.journal console.new)) }
 {
     require_data(console, &image.regions, texts, asked.quiet)?;
     match answer_of_following(console.alloc(), image, names, asked) {

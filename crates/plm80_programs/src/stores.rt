@@ -2,14 +2,15 @@
 
 ghost use Rattle.std.specs.Prelude.{◌≡◌, ◌++◌, false, All, IfErr, IfNone, IfOk, IfSome, OnOk};
 ghost use Rattle.image80.specs.Regions.{in_data};
-ghost use Rattle.plm80_console.specs.{Answer.Gives, Answer.GivesUp, Answer.IsAnswered, Answer.IsGivenUp, Answer.prints, Journal.and_reported};
-ghost use Rattle.plm80_names.specs.{Arguments.program_paths, Verdict.AnswersVerdict};
+ghost use Rattle.plm80_console.specs.{Answer.Gives, Answer.GivesUp, Answer.IsAnswered, Answer.prints, Journal.Blames};
+ghost use Rattle.plm80_names.specs.{Arguments.program_paths, Blaming.GivesUpOrBlames, Verdict.AnswersVerdict};
 ghost use Rattle.plm80_boards.specs.Boards.{WithBoard, board_paths};
-ghost use Rattle.plm80_programs.specs.Printed.{AnswersStores, IsAllData, ListsStores, PrintsStores, PrintsStoresOn, stores_lines};
+ghost use Rattle.plm80_programs.specs.Printed.{AnswersStores, AreNamedData, IsAllData, ListsStores, PrintsStores, PrintsStoresOn, stores_lines};
 ghost use Rattle.plm80_programs.specs.Arguments.{AreStoresArguments};
 ghost use Rattle.plm80_programs.specs.Printed.{stores_status};
 
 use clap::ArgMatches;
+use image80::laws::text_of_regions_is_read_as_itself;
 use image80::{Image, Range, Regions};
 use loader80::Vouched;
 use plm80_boards::{BOARD, GivenBoard, board_path};
@@ -124,6 +125,7 @@ fn list_on_board<C: Console>(
         (C.journal console.old) (C.journal console.new)) }
 {
     faults_follow_reading();
+    text_of_regions_is_read_as_itself();
     let named = ranges_of(console, QUIET, &arguments.quiet)?;
     let files = arguments.files;
     let (image, names) = files.read(console)?;
@@ -144,7 +146,8 @@ fn print_on_board<C: Console>(
     named: Vec<Range>,
 ) -> Result<u8, Reported>
     ensures done { IfOk result (IsAnswered (PrintsStoresOn board.now.board named.items image names.now) (C.journal console.old) (C.journal console.new)) }
-    ensures fault { IfErr result (λ _. IsGivenUp (PrintsStoresOn board.now.board named.items image names.now) (C.journal console.old) (C.journal console.new)) }
+    ensures fault { IfErr result (λ _. GivesUpOrBlames (AreNamedData board.now.board image.regions named.items → ⊥)
+        (PrintsStoresOn board.now.board named.items image names.now) (C.journal console.old) (C.journal console.new)) }
 {
     match board.quiet(console.alloc(), &image.regions, named) {
         Ok(quiet) => print_stores(console, image, names, texts, &quiet),
@@ -162,7 +165,8 @@ fn print_stores<C: Console>(
     quiet: &[Range],
 ) -> Result<u8, Reported>
     ensures done { IfOk result (IsAnswered (PrintsStores quiet.now image names.now) (C.journal console.old) (C.journal console.new)) }
-    ensures fault { IfErr result (λ _. IsGivenUp (PrintsStores quiet.now image names.now) (C.journal console.old) (C.journal console.new)) }
+    ensures fault { IfErr result (λ _. GivesUpOrBlames (All (IsAllData image.regions) quiet.now → ⊥) (PrintsStores quiet.now image names.now)
+        (C.journal console.old) (C.journal console.new)) }
 {
     require_data(console, &image.regions, texts, quiet)?;
     match judged(console.alloc(), image, names, quiet, console.explains()) {
@@ -184,11 +188,11 @@ pub(crate) fn require_data<C: Console>(
 ) -> Result<(), Reported>
     ensures are_data { OnOk result (All (IsAllData regions.now) quiet.now) }
     ensures unchanged { IfOk result (λ _. C.journal console.new ≡ C.journal console.old) }
-    ensures fault { IfErr result (λ _. C.journal console.new ≡ and_reported (C.journal console.old)) }
+    ensures fault { IfErr result (λ _. Blames (All (IsAllData regions.now) quiet.now → ⊥) (C.journal console.old) (C.journal console.new)) }
 {
     match first_no_data(regions, quiet) {
         Some((index, at)) => {
-            let reported = console.report("NotData");
+            let reported = console.blame("NotData");
             if let Some(text) = texts.get(index) {
                 console.explain(format_args!("--{QUIET} {text}: {at:04X} is no address of DATA"));
             }
@@ -201,6 +205,7 @@ pub(crate) fn require_data<C: Console>(
 /// The index of the first of the quiet ranges that isn't all data of `regions`, and its first address that isn't. `None` if all are.
 fn first_no_data(regions: &Regions, quiet: &[Range]) -> Option<(usize, u16)>
     ensures some { IfSome result (λ found. in_data regions.now found.1 ≡ false) }
+    ensures lacks { IfSome result (λ _. All (IsAllData regions.now) quiet.now → ⊥) }
     ensures none { IfNone result (All (IsAllData regions.now) quiet.now) }
 {
     let mut index = 0usize;

@@ -1,9 +1,9 @@
 //! `plm80 inputs`: the text of a run's inputs, from words.
 
-ghost use Rattle.std.specs.Prelude.{◌≡◌, ◌≤◌, [], All, length, map, IfOk, IfErr, OnOk};
+ghost use Rattle.std.specs.Prelude.{◌≡◌, ◌≢◌, ◌≤◌, [], All, length, map, IfOk, IfErr, OnOk};
 ghost use Rattle.stream80.specs.WholeText.{text_limit};
 ghost use Rattle.loader80_text.specs.Text.{text_of};
-ghost use Rattle.plm80_console.specs.{Answer.Gives, Answer.GivesUp, Answer.writes, Journal.and_reported};
+ghost use Rattle.plm80_console.specs.{Answer.Gives, Answer.GivesUp, Answer.writes, Journal.Blames};
 ghost use Rattle.plm80_runs.specs.InputWords.{AnswersWords, AreInputsArguments, FaultsFile, FaultsWords, IsGoodWord, inputs_named};
 
 use clap::ArgMatches;
@@ -129,18 +129,18 @@ fn inputs_of<'a>(alloc: Global, words: &[&'a str]) -> Result<WordInputs, InputsF
 /// Reports why words give no file of inputs: the word that names none, with what such a word is like, if words are asked for; or the path
 /// of the file that would be too long.
 fn report_inputs<C: Console>(console: &mut C, path: &str, fault: InputsFileFault<'_>) -> Reported
-    ensures { C.journal console.new ≡ and_reported (C.journal console.old) }
+    ensures { Blames (fault.entry ≢ InputsFileFault.Memory) (C.journal console.old) (C.journal console.new) }
 {
     match fault {
         InputsFileFault::BadInput(word) => {
-            let reported = console.report(format_args!("{} {word}", WordFault::BadInput));
+            let reported = console.blame(format_args!("{} {word}", WordFault::BadInput));
             console.explain(
                 "a word is a port, an equals sign and bytes, without blanks, as in 02=3*2A,00",
             );
             reported
         }
         InputsFileFault::TooLong => {
-            let reported = console.report_file(path, LengthFault::TooLong);
+            let reported = console.blame_file(path, LengthFault::TooLong);
             console.explain("a text of inputs has at most 1048576 bytes");
             reported
         }

@@ -1,6 +1,10 @@
 use Rattle.plm80_programs.proofs.Names.{◌≡◌, All, List, Located, Range, subst, GaveUp, Journal, IsGiven}
 use Rattle.plm80_programs.specs.Printed.{IsAllData}
-use Rattle.plm80_console.specs.Answer.IsGivenUp.{within}
+use Rattle.plm80_console.specs.Answer.IsGivenUp.{before, within}
+use Rattle.plm80_console.specs.Journal.{Blames}
+use Rattle.plm80_console.specs.Journal.Blames.{other as other_fault, wrong as what_is_wrong}
+use Rattle.plm80_names.specs.Blaming.{GivesUpOrBlames}
+use Rattle.plm80_names.specs.Blaming.GivesUpOrBlames.{given_up, wrong}
 use Rattle.plm80_console.specs.AnswerLaws.{err_from}
 use Rattle.plm80_programs.proofs.stores.print_stores.Goals as goal
 
@@ -25,9 +29,9 @@ pub returns-in_err-status-in-Ok-clause-fault : goal.returns-in_err-status-in-Ok-
 returns-in_err-status-in-Ok-clause-fault g c =
     let answer = c.in-Ok.field-0.answer in
     err_from c.from_residual-in_err-status-in-Ok.result
-    (within answer (record {
+    (given_up (within answer (record {
       are_data = all_data c.args.quiet.now _ _ c.image.view_is c.in_ok-require_data.ensures.are_data;
       verdict = c.in-Ok.ensures;
     })
     (subst (λ (j : Journal). GaveUp answer j (g.C.Console.journal c.give.new.self)) c.in_ok-require_data.ensures.unchanged
-    c.in_err-status-in-Ok.ensures.fault))
+    c.in_err-status-in-Ok.ensures.fault)))
