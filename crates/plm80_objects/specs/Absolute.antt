@@ -1,15 +1,17 @@
 -- What `absolute` writes: the image of dumps; and `extract`: bytes of an image.
 -- (ISIS-II User's Guide: absolute object modules.)
-use Rattle.std.specs.Prelude.{◌≡◌, ◌<◌, ◌+◌, ℕ, if◌then◌else◌, List, [], ◌∷◌, ◌++◌, map}
-use Rattle.std.specs.{Borrow.Bor, List.AllZip}
+use Rattle.std.specs.Prelude.{◌≡◌, ◌<◌, ◌+◌, ℕ, Bool, true, if◌then◌else◌, All, IsTrue, List, [], ◌∷◌, ◌++◌, length, map}
+use Rattle.std.specs.{Borrow.Bor, List.AllPairs, List.AllZip, List.flat_map, List.list_any}
+use Rattle.omf_core.specs.Name.{is_name}
 use Rattle.image80.specs.Image.{Located, PlacedBytes}
 use Rattle.image80_file.specs.ImageFile.{SpellsImage, image_bytes, without_regions}
-use Rattle.rom80.specs.Rom.{bytes_over, chunks_of, sum_line}
+use Rattle.rom80.specs.Rom.{bytes_over, chunks_of, is_among, is_covered, sum_line}
+use Rattle.rom80_find.specs.Dump.{DumpValue}
 use Rattle.plm80_console.specs.Answer.{AnswerValue, Gives, GivesUp, writes}
 use Rattle.plm80_console.specs.{Journal.FileValue, Journal.Journal, Journal.and_blamed, Journal.and_reported, NumberText.IsWordText, NumberText.word_value}
 use Rattle.plm80_objects.specs.{declared.absolute.AbsoluteArguments.AbsoluteArguments, declared.absolute.RomFile.RomFile}
 use Rattle.plm80_objects.specs.{declared.extract.Extent.Extent, declared.extract.ExtractArguments.ExtractArguments, Arguments.IsExtentOf}
-use Rattle.plm80_objects.specs.{Read.AreRead}
+use Rattle.plm80_objects.specs.{Compare.IsDump, Read.AreRead}
 
 -- the image of a name, with these chunks and this start, goes to its path
 pub record WritesImage (path name : List ℕ) (chunks : List PlacedBytes) (start : ℕ) (answer : AnswerValue) : Type 0 where
@@ -32,22 +34,46 @@ AreRomFiles path first further [] = ⊥
 AreRomFiles path first further (file ∷ files) =
     (file.path.now ≡ path) × (IsWordText first × (file.first ≡ word_value first)) × AllZip (λ text rom. IsRomFile text.now rom) further files
 
--- the chunks of files' bytes, each from its address on, one after another
-abbrev pub chunks_from : List RomFile → List FileValue → List PlacedBytes
-chunks_from (rom ∷ roms) (file ∷ files) = chunks_of rom.first file.bytes ++ chunks_from roms files
-chunks_from roms files = []
+-- the dumps that files have, each from its address on
+abbrev pub dumps_of : List RomFile → List FileValue → List DumpValue
+dumps_of (rom ∷ roms) (file ∷ files) = record { first = rom.first; bytes = file.bytes } ∷ dumps_of roms files
+dumps_of roms files = []
+
+-- the dump has a byte at the address
+abbrev pub has_byte : (address : ℕ) → DumpValue → Bool
+has_byte address dump = is_among dump.first (length dump.bytes) address
+
+-- two dumps have a byte at one address
+abbrev pub Overlap : DumpValue → DumpValue → Type 0
+Overlap dump other = (address : ℕ) × (has_byte address dump ≡ true) × (has_byte address other ≡ true)
+
+-- each of these dumps has bytes and ends in memory, and no two overlap
+pub record AreDumps (dumps : List DumpValue) : Type 0 where
+  pub whole : All (λ dump. IsDump dump.first dump.bytes) dumps
+  pub apart : AllPairs (λ dump other. Overlap dump other → ⊥) dumps
+
+-- the chunks of dumps, one after another
+abbrev pub chunks_from : List DumpValue → List PlacedBytes
+chunks_from dumps = flat_map (λ dump. chunks_of dump.first dump.bytes) dumps
+
+-- these are the chunks of the dumps that files have, and cover the dumps' addresses
+pub record HaveDumps (roms : List RomFile) (files : List FileValue) (chunks : List PlacedBytes) : Type 0 where
+  pub are_dumps : AreDumps (dumps_of roms files)
+  pub chunks_are : chunks ≡ chunks_from (dumps_of roms files)
+  pub covered : (address : ℕ) → is_covered chunks address ≡ list_any (has_byte address) (dumps_of roms files)
 
 abbrev pub rom_paths : List RomFile → List (List ℕ)
 rom_paths roms = map (λ (rom : RomFile). rom.path.now) roms
 
--- all of these files were read, and these are the chunks of their bytes
+-- all of these files were read, and these are the chunks of their dumps
 abbrev pub AreDumpsRead : (roms : List RomFile) → (old new : Journal) → (chunks : List PlacedBytes) → Type 0
-AreDumpsRead roms = AreRead (λ files chunks. chunks ≡ chunks_from roms files) (rom_paths roms)
+AreDumpsRead roms = AreRead (HaveDumps roms) (rom_paths roms)
 
--- the image of their dumps goes to its path
-abbrev pub WritesDumps : AbsoluteArguments → List RomFile → List FileValue → AnswerValue → Type 0
-WritesDumps arguments roms files answer =
-    WritesImage arguments.image.now arguments.name.text.now (chunks_from roms files) (word_value arguments.start.text.now) answer
+-- the image of their dumps, which has a name, goes to its path
+pub record WritesDumps (arguments : AbsoluteArguments) (roms : List RomFile) (files : List FileValue) (answer : AnswerValue) : Type 0 where
+  pub named : IsTrue (is_name arguments.name.text.now)
+  pub are_dumps : AreDumps (dumps_of roms files)
+  pub writes : WritesImage arguments.image.now arguments.name.text.now (chunks_from (dumps_of roms files)) (word_value arguments.start.text.now) answer
 
 -- the files and their addresses are those that the arguments write
 abbrev pub AreRomsOf : AbsoluteArguments → List RomFile → Type 0
