@@ -1,6 +1,7 @@
 use Rattle.plm80_console.specs.AnswerLaws.{blames_same, err_from, gives_up_if_made, gives_up_unanswered, only_blames_same, wrong_so_far}
 use Rattle.plm80_console.specs.Journal.{Blames, OnlyBlames, Blames.other, Blames.wrong}
-use Rattle.std.specs.Prelude.{IsTrue}
+use Rattle.std.proofs.Common.{sym}
+use Rattle.std.proofs.lemmas.Bool.{false≢true}
 use Rattle.plm80_objects.proofs.Names.{List, [], ◌∙◌, ap, refl, subst, IfErr-weaker, IfOk-weaker, GivesUp, Journal, and_read_files, RomFile, AreDumpsRead}
 use Rattle.plm80_objects.proofs.Names.{GivesUpDumps, WritesDumps, WritesImage, rom_paths}
 use Rattle.plm80_objects.specs.Wrong.{HaveNoDumps}
@@ -65,7 +66,7 @@ returns-in_err-name-clause-fault g c =
     (within roms c.in_ok-files.ensures.files
     (wrong_so_far (WritesDumps c.args.arguments.now roms) (rom_paths roms) (journal c.args.console.now) (journal c.files_of.new.console)
     (journal c.module_name.new.console) [] (rom_paths roms) refl (c.in_ok-files.ensures.unchanged ∙ c.in_ok-start.ensures.unchanged)
-    (λ none others answer named is. subst IsTrue none is.named) c.in_err-name.ensures.failed))
+    (λ none others answer named is. false≢true (sym none ∙ is.named)) c.in_err-name.ensures.failed))
 
 pub returns-in_err-start-clause-fault : goal.returns-in_err-start-clause-fault
 returns-in_err-start-clause-fault g c = err_from c.from_residual.result (no_start c.in_err-start.ensures.fault c.in_err-start.ensures.failed)

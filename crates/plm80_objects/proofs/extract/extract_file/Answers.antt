@@ -1,7 +1,8 @@
 use Rattle.plm80_console.specs.AnswerLaws.{err_from, gives_or_gives_up, wrong_arguments, wrong_files}
 use Rattle.plm80_files.specs.{Wrong.SpellsNoImage, WrongLaws.no_image}
 use Rattle.plm80_objects.proofs.Names.{ℕ, List, [], ◌∷◌, refl, ◌∙◌, ap, subst, SpellsImage, without_regions, Journal, and_read, file_value}
-use Rattle.plm80_objects.proofs.Names.{ExtractsFile, arith, ◌<◌, ◌+◌}
+use Rattle.rom80.specs.declared.fault.RomFault.TheVariants.{PastMemory}
+use Rattle.plm80_objects.proofs.Names.{ExtractsFile, Err, arith, ◌≡◌, ◌<◌, ◌+◌}
 use Rattle.plm80_objects.specs.{Arguments.IsExtentOf, declared.extract.Extent.Extent, declared.extract.ExtractArguments.ExtractArguments}
 use Rattle.plm80_objects.proofs.extract.extract_file.Goals as goal
 
@@ -55,6 +56,6 @@ returns-clause-fault g c =
     wrong_files (ExtractsFile c.args.arguments) (path ∷ []) (g.C.Console.journal c.args.console.now) (g.C.Console.journal c.image_of.new.console)
     (g.C.Console.journal c.report_range.new.console) (file_value path bytes ∷ []) refl
     (c.in_ok-image.ensures.unchanged ∙ c.in_ok-file.ensures.read ∙ ap (λ (j : Journal). and_read j path bytes) c.in_ok-extent.ensures.unchanged)
-    (λ past others answer named is.
-    in_memory c.args.arguments is.extent c.in_ok-extent.extent is.is_extent c.in_ok-extent.ensures.extent is.in_memory (c.in-Err.ensures.past.0 past))
+    (λ (past : c.in-Err.fault ≡ PastMemory) others answer named is.
+    in_memory c.args.arguments is.extent c.in_ok-extent.extent is.is_extent c.in_ok-extent.ensures.extent is.in_memory (c.in-Err.ensures.past.0 (ap Err past)))
     c.report_range.ensures

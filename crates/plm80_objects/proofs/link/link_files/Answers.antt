@@ -1,6 +1,7 @@
 use Rattle.plm80_console.specs.{AnswerLaws.err_from, AnswerLaws.gives_or_gives_up, AnswerLaws.gives_up_unanswered, AnswerLaws.only_blames_same}
 use Rattle.plm80_console.specs.{AnswerLaws.wrong_files, AnswerLaws.wrong_so_far, Journal.OnlyBlames}
-use Rattle.std.specs.Prelude.{IsTrue}
+use Rattle.std.proofs.Common.{sym}
+use Rattle.std.proofs.lemmas.Bool.{false≢true}
 use Rattle.plm80_files.specs.Wrong.{SpellsNeither}
 use Rattle.plm80_objects.specs.Wrong.{OfOne}
 use Rattle.plm80_objects.proofs.FaultLemmas.{all_of_them, links_none, no_link_files}
@@ -56,5 +57,5 @@ returns-in_err-name-clause-fault g c =
     let paths = texts c.args.arguments.now.files.items in
     err_from c.from_residual.result
     (wrong_so_far (LinksFiles c.args.arguments.now) paths (g.C.Console.journal c.args.console.now) (g.C.Console.journal c.args.console.now)
-    (g.C.Console.journal c.module_name.new.console) [] paths refl refl (λ none others answer named is. subst IsTrue none is.named)
+    (g.C.Console.journal c.module_name.new.console) [] paths refl refl (λ none others answer named is. false≢true (sym none ∙ is.named))
     c.in_err-name.ensures.failed)
