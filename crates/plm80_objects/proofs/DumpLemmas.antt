@@ -1,20 +1,23 @@
 -- The dumps that files have: one more beside those of files before it, or why it is none.
-use Rattle.std.specs.Prelude.{◌≢◌, ◌||◌, false, Any}
-use Rattle.std.specs.List.{list_any}
-use Rattle.std.proofs.Math.{Bool.or-false, Seq.get_or-append_seam}
-use Rattle.std.proofs.lemmas.Grind.{flat_map-append}
+use Rattle.std.specs.Prelude.{◌≢◌, ◌||◌, ◌==◌}
+use Rattle.std.specs.{List.AllZip, List.after_first, List.list_any, Str.Parse.AllDigits}
+use Rattle.std.proofs.Math.{Bool.or-false, Seq.drop-append-add, Seq.get_or-append_seam}
+use Rattle.std.proofs.lemmas.{Bool.eq-eqb, Bool.ne_eqb, Grind.flat_map-append, List.Sums.position_or_len_is}
 use Rattle.std.proofs.lemmas.List.{get_or_append_left, length-append}
 use Rattle.std.proofs.lemmas.List.Elements.{All-push}
 use Rattle.std.proofs.lemmas.List.Folds.{Any-from_list_any, list_any-append, list_any_at}
 use Rattle.std.proofs.lemmas.List.Quantifiers.{all_pairs_push}
 use Rattle.rom80.specs.Rom.{ShareAnAddress, is_among}
 use Rattle.rom80.specs.declared.fault.RomFault.{RomFault, TheVariants.DumpsOverlap, TheVariants.EmptyFile, TheVariants.Memory, TheVariants.PastMemory}
-use Rattle.plm80_objects.specs.Absolute.{AreDumps, HaveDumps, Overlap, dumps_of, has_byte}
-use Rattle.plm80_objects.specs.{Compare.IsDump, RomFaults.IsRefusedWith, Wrong.HaveNoDumps}
-use Rattle.plm80_objects.proofs.Names.{◌≡◌, ℕ, ◌+◌, ◌<◌, Bool, true, List, [], ◌∷◌, ◌++◌, length, drop, take, map, refl, ◌∙◌, ap}
+use Rattle.plm80_console.specs.{NumberLaws.digits_without, NumberText.word_value}
+use Rattle.plm80_objects.specs.Absolute.{AreDumps, AreRomsOf, Overlap, dump_paths, dumps_of, has_byte}
+use Rattle.plm80_objects.specs.declared.absolute.AbsoluteArguments.{AbsoluteArguments}
+use Rattle.plm80_objects.specs.{Compare.IsDump, RomFaults.HaveDumps, RomFaults.IsRefusedWith, Wrong.HaveNoDumps}
+use Rattle.plm80_objects.proofs.Names.{◌≡◌, ℕ, ◌+◌, ◌<◌, Bool, List, [], ◌∷◌, ◌++◌, length, drop, take, map, refl, ◌∙◌, ap}
 use Rattle.plm80_objects.proofs.Names.{arith, get_or, subst, sym, append-nil, append_assoc, take-append-drop, take_more, PlacedBytes, chunks_of, is_covered}
 use Rattle.plm80_objects.proofs.Names.{paths_of, FileValue, Journal, and_read, file_value, DumpValue, RomFile, AreRead, AreDumpsRead, chunks_from, rom_paths}
-use Rattle.plm80_objects.proofs.ReadLemmas.{one_read}
+use Rattle.plm80_objects.proofs.Names.{Bor, IsRomFile}
+use Rattle.plm80_objects.proofs.{FaultLemmas.split_once, ReadLemmas.one_read}
 
 abbrev pub rom_path : RomFile → List ℕ
 rom_path rom = rom.path.now
@@ -64,9 +67,11 @@ module _ (dumps : List DumpValue) (dump : DumpValue) (chunks : List PlacedBytes)
     last_apart : ShareAnAddress chunks dump.first (length dump.bytes) → ⊥
     last_apart share =
         let found = Any-from_list_any (has_byte share.0) dumps (sym (covered share.0) ∙ share.1) in
-        are.apart found.0 (length dumps) found.1 found.2 last_below
-        (share.0, ap (has_byte share.0) (get_or_append_left dumps (dump ∷ behind) found.1 found.0 found.2 ∙ found.3) ∙ found.4,
-        ap (has_byte share.0) (get_or-append_seam dumps dump behind found.1) ∙ share.2)
+        are.apart found.0 (length dumps) found.1 found.2 last_below (
+          share.0,
+          ap (has_byte share.0) (get_or_append_left dumps (dump ∷ behind) found.1 found.0 found.2 ∙ found.3) ∙ found.4,
+          ap (has_byte share.0) (get_or-append_seam dumps dump behind found.1) ∙ share.2,
+        )
 
   -- one that is refused is none beside them, whatever stands behind it
   refused : (behind : List DumpValue) (fault : RomFault) → fault ≢ Memory → IsRefusedWith chunks dump.first dump.bytes fault
@@ -132,3 +137,60 @@ module _ (roms : List RomFile) (i : ℕ) (d : RomFile) (bytes : List ℕ) {old b
       (λ files named have no_memory.
       subst (λ (rs : List RomFile). HaveNoDumps rs (files ++ file ∷ [])) parts
       (no_dumps (take i roms) (drop (i + 1) roms) rom files file chunks fault named have is no_memory))
+
+-- ---- the texts that name dumps
+
+abbrev AreNamed : List (Bor (List ℕ)) → List RomFile → Type 0
+AreNamed = AllZip (λ (text : Bor (List ℕ)) (rom : RomFile). IsRomFile text.now rom)
+
+-- the first equals sign stands behind the digits
+behind_digits : (digits path : List ℕ) → AllDigits 16 digits → after_first (λ byte. byte == 61) (digits ++ 61 ∷ path) ≡ path
+behind_digits digits path all =
+    let text = digits ++ 61 ∷ path in
+    let at = position_or_len_is (λ byte. byte == 61) text (length digits) 0 (omega (arith, length-append digits (61 ∷ path)))
+    (λ k below.
+    ne_eqb (get_or text k 0) 61
+    (subst (λ (n : ℕ). n ≢ 61) (sym (get_or_append_left digits (61 ∷ path) 0 k below)) (digits_without 61 (omega arith) digits all k below)))
+    (λ below. eq-eqb (get_or text (length digits) 0) 61 (get_or-append_seam digits 61 path 0)) in
+    ap (λ (n : ℕ). drop (n + 1) text) at ∙ drop-append-add digits (61 ∷ path) 1
+
+path_behind : (text : List ℕ) (rom : RomFile) → IsRomFile text rom → rom.path.now ≡ after_first (λ byte. byte == 61) text
+path_behind text rom is =
+    sym (ap (after_first (λ byte. byte == 61)) is.text_is ∙ behind_digits is.digits rom.path.now is.is_word.0.1)
+
+paths_behind : (texts : List (Bor (List ℕ))) (roms : List RomFile) → AreNamed texts roms
+    → rom_paths roms ≡ map (λ (text : Bor (List ℕ)). after_first (λ byte. byte == 61) text.now) texts
+paths_behind [] [] are = refl
+paths_behind [] (rom ∷ roms) are = absurd are
+paths_behind (text ∷ texts) [] are = absurd are
+paths_behind (text ∷ texts) (rom ∷ roms) are = λ k. path_behind text.now rom are.0 k ∷ paths_behind texts roms are.1 k
+
+pub paths_are : (asked : AbsoluteArguments) (roms : List RomFile) → AreRomsOf asked roms → rom_paths roms ≡ dump_paths asked
+paths_are asked [] are = absurd are
+paths_are asked (rom ∷ roms) are = λ k. are.0 k ∷ paths_behind asked.further.items roms are.2 k
+
+one_address : (text : List ℕ) (a b : RomFile) → IsRomFile text a → IsRomFile text b → a.first ≡ b.first
+one_address text a b is are =
+    is.first_is
+    ∙ ap word_value (split_once 61 (omega arith) is.digits are.digits a.path.now b.path.now is.is_word.0.1 are.is_word.0.1 (sym is.text_is ∙ are.text_is)).0
+    ∙ sym are.first_is
+
+further_same : (texts : List (Bor (List ℕ))) (roms others : List RomFile) (files : List FileValue) → AreNamed texts roms → AreNamed texts others
+    → dumps_of roms files ≡ dumps_of others files
+further_same [] [] [] files are are' = refl
+further_same [] [] (other ∷ others) files are are' = absurd are'
+further_same [] (rom ∷ roms) others files are are' = absurd are
+further_same (text ∷ texts) [] others files are are' = absurd are
+further_same (text ∷ texts) (rom ∷ roms) [] files are are' = absurd are'
+further_same (text ∷ texts) (rom ∷ roms) (other ∷ others) [] are are' = refl
+further_same (text ∷ texts) (rom ∷ roms) (other ∷ others) (file ∷ files) are are' = λ k.
+    record { first = one_address text.now rom other are.0 are'.0 k; bytes = file.bytes } ∷ further_same texts roms others files are.1 are'.1 k
+
+-- the arguments write one list of dumps
+pub dumps_same : (asked : AbsoluteArguments) (roms others : List RomFile) (files : List FileValue) → AreRomsOf asked roms → AreRomsOf asked others
+    → dumps_of roms files ≡ dumps_of others files
+dumps_same asked [] others files are are' = absurd are
+dumps_same asked (rom ∷ roms) [] files are are' = absurd are'
+dumps_same asked (rom ∷ roms) (other ∷ others) [] are are' = refl
+dumps_same asked (rom ∷ roms) (other ∷ others) (file ∷ files) are are' = λ k.
+    record { first = (are.1.1 ∙ sym are'.1.1) k; bytes = file.bytes } ∷ further_same asked.further.items roms others files are.2 are'.2 k

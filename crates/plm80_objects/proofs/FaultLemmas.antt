@@ -1,5 +1,5 @@
 -- A fault that is blamed is there: of what the files are, and of arguments, there is one reading.
-use Rattle.std.specs.Prelude.{◌<◌, ◌≢◌, ◌⊎◌, None, Option, Some}
+use Rattle.std.specs.Prelude.{◌<◌, ◌≤◌, ◌≢◌, ◌⊎◌, None, Option, Some}
 use Rattle.std.specs.Char.{digit_value}
 use Rattle.std.proofs.Common.{inl, inr}
 use Rattle.std.proofs.lemmas.{Bool.false≢true, Option.none-some}
@@ -96,21 +96,22 @@ one_numbers texts a b is are = λ k. record {
   memory_size = (is.memory_size.1 ∙ sym are.memory_size.1) k;
 }
 
--- digits up to a colon
-split_once : (xs ys : List ℕ) (rest behind : List ℕ) → AllDigits 16 xs → AllDigits 16 ys → xs ++ 58 ∷ rest ≡ ys ++ 58 ∷ behind → (xs ≡ ys) × (rest ≡ behind)
-split_once [] [] rest behind all each same = (refl, ap (λ (l : List ℕ). drop 1 l) same)
-split_once [] (y ∷ ys) rest behind all each same =
-    absurd (omega (arith, subst (λ (n : ℕ). digit_value n < 16) (sym (ap (λ (l : List ℕ). slice_index_or l 0 0) same)) each.0))
-split_once (x ∷ xs) [] rest behind all each same =
-    absurd (omega (arith, subst (λ (n : ℕ). digit_value n < 16) (ap (λ (l : List ℕ). slice_index_or l 0 0) same) all.0))
-split_once (x ∷ xs) (y ∷ ys) rest behind all each same =
-    let more = split_once xs ys rest behind all.1 each.1 (ap (λ (l : List ℕ). drop 1 l) same) in
+-- digits up to a sign that is none
+pub split_once : (sign : ℕ) → 16 ≤ digit_value sign → (xs ys : List ℕ) (rest behind : List ℕ) → AllDigits 16 xs → AllDigits 16 ys
+    → xs ++ sign ∷ rest ≡ ys ++ sign ∷ behind → (xs ≡ ys) × (rest ≡ behind)
+split_once sign none [] [] rest behind all each same = (refl, ap (λ (l : List ℕ). drop 1 l) same)
+split_once sign none [] (y ∷ ys) rest behind all each same =
+    absurd (omega (arith, none, subst (λ (n : ℕ). digit_value n < 16) (sym (ap (λ (l : List ℕ). slice_index_or l 0 0) same)) each.0))
+split_once sign none (x ∷ xs) [] rest behind all each same =
+    absurd (omega (arith, none, subst (λ (n : ℕ). digit_value n < 16) (ap (λ (l : List ℕ). slice_index_or l 0 0) same) all.0))
+split_once sign none (x ∷ xs) (y ∷ ys) rest behind all each same =
+    let more = split_once sign none xs ys rest behind all.1 each.1 (ap (λ (l : List ℕ). drop 1 l) same) in
     let first : x ≡ y = ap (λ (l : List ℕ). slice_index_or l 0 x) same in
     ((λ k. first k ∷ more.0 k), more.1)
 
 one_range : (text text' : List ℕ) (a b : Range) → IsRangeText text a → IsRangeText text' b → text ≡ text' → a ≡ b
 one_range text text' a b is are same =
-    let both = split_once is.before are.before is.behind are.behind is.is_first.0.1 are.is_first.0.1 (sym is.text_is ∙ same ∙ are.text_is) in
+    let both = split_once 58 (omega arith) is.before are.before is.behind are.behind is.is_first.0.1 are.is_first.0.1 (sym is.text_is ∙ same ∙ are.text_is) in
     λ k. record {
       first = (is.first_is ∙ ap word_value both.0 ∙ sym are.first_is) k;
       length = (is.length_is ∙ ap word_value both.1 ∙ sym are.length_is) k;

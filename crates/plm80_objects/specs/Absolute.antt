@@ -1,17 +1,17 @@
 -- What `absolute` writes: the image of dumps; and `extract`: bytes of an image.
 -- (ISIS-II User's Guide: absolute object modules.)
-use Rattle.std.specs.Prelude.{◌≡◌, ◌<◌, ◌+◌, ℕ, Bool, true, if◌then◌else◌, All, IsTrue, List, [], ◌∷◌, ◌++◌, length, map}
-use Rattle.std.specs.{Borrow.Bor, List.AllPairs, List.AllZip, List.flat_map, List.list_any}
+use Rattle.std.specs.Prelude.{◌≡◌, ◌==◌, ◌<◌, ◌+◌, ℕ, Bool, true, if◌then◌else◌, All, IsTrue, List, [], ◌∷◌, ◌++◌, length, map}
+use Rattle.std.specs.{Borrow.Bor, List.AllPairs, List.AllZip, List.after_first, List.flat_map}
 use Rattle.omf_core.specs.Name.{is_name}
 use Rattle.image80.specs.Image.{Located, PlacedBytes}
 use Rattle.image80_file.specs.ImageFile.{SpellsImage, image_bytes, without_regions}
-use Rattle.rom80.specs.Rom.{bytes_over, chunks_of, is_among, is_covered, sum_line}
+use Rattle.rom80.specs.Rom.{bytes_over, chunks_of, is_among, sum_line}
 use Rattle.rom80_find.specs.Dump.{DumpValue}
 use Rattle.plm80_console.specs.Answer.{AnswerValue, Gives, GivesUp, writes}
-use Rattle.plm80_console.specs.{Journal.FileValue, Journal.Journal, Journal.and_blamed, Journal.and_reported, NumberText.IsWordText, NumberText.word_value}
+use Rattle.plm80_console.specs.{Journal.FileValue, Journal.Journal, NumberText.IsWordText, NumberText.word_value}
 use Rattle.plm80_objects.specs.{declared.absolute.AbsoluteArguments.AbsoluteArguments, declared.absolute.RomFile.RomFile}
 use Rattle.plm80_objects.specs.{declared.extract.Extent.Extent, declared.extract.ExtractArguments.ExtractArguments, Arguments.IsExtentOf}
-use Rattle.plm80_objects.specs.{Compare.IsDump, Read.AreRead}
+use Rattle.plm80_objects.specs.{Compare.IsDump}
 
 -- the image of a name, with these chunks and this start, goes to its path
 pub record WritesImage (path name : List ℕ) (chunks : List PlacedBytes) (start : ℕ) (answer : AnswerValue) : Type 0 where
@@ -56,46 +56,28 @@ pub record AreDumps (dumps : List DumpValue) : Type 0 where
 abbrev pub chunks_from : List DumpValue → List PlacedBytes
 chunks_from dumps = flat_map (λ dump. chunks_of dump.first dump.bytes) dumps
 
--- these are the chunks of the dumps that files have, and cover the dumps' addresses
-pub record HaveDumps (roms : List RomFile) (files : List FileValue) (chunks : List PlacedBytes) : Type 0 where
-  pub are_dumps : AreDumps (dumps_of roms files)
-  pub chunks_are : chunks ≡ chunks_from (dumps_of roms files)
-  pub covered : (address : ℕ) → is_covered chunks address ≡ list_any (has_byte address) (dumps_of roms files)
-
-abbrev pub rom_paths : List RomFile → List (List ℕ)
-rom_paths roms = map (λ (rom : RomFile). rom.path.now) roms
-
--- all of these files were read, and these are the chunks of their dumps
-abbrev pub AreDumpsRead : (roms : List RomFile) → (old new : Journal) → (chunks : List PlacedBytes) → Type 0
-AreDumpsRead roms = AreRead (HaveDumps roms) (rom_paths roms)
-
--- the image of their dumps, which has a name, goes to its path
-pub record WritesDumps (arguments : AbsoluteArguments) (roms : List RomFile) (files : List FileValue) (answer : AnswerValue) : Type 0 where
-  pub named : IsTrue (is_name arguments.name.text.now)
-  pub are_dumps : AreDumps (dumps_of roms files)
-  pub writes : WritesImage arguments.image.now arguments.name.text.now (chunks_from (dumps_of roms files)) (word_value arguments.start.text.now) answer
-
 -- the files and their addresses are those that the arguments write
 abbrev pub AreRomsOf : AbsoluteArguments → List RomFile → Type 0
 AreRomsOf arguments roms = AreRomFiles arguments.bytes.now arguments.first.text.now arguments.further.items roms
 
-pub record GivesDumps (arguments : AbsoluteArguments) (old new : Journal) (status : ℕ) : Type 0 where
+-- the image of the dumps that the arguments write, which has a name and a start, goes to its path
+pub record WritesDumps (arguments : AbsoluteArguments) (files : List FileValue) (answer : AnswerValue) : Type 0 where
   pub roms : List RomFile
   pub are_roms : AreRomsOf arguments roms
-  pub start : IsWordText arguments.start.text.now
-  pub gives : Gives (WritesDumps arguments roms) (rom_paths roms) old new status
+  pub named : IsTrue (is_name arguments.name.text.now)
+  pub starts : IsWordText arguments.start.text.now
+  pub are_dumps : AreDumps (dumps_of roms files)
+  pub writes : WritesImage arguments.image.now arguments.name.text.now (chunks_from (dumps_of roms files)) (word_value arguments.start.text.now) answer
 
--- the arguments write no dumps
-abbrev pub WriteNoDumps : AbsoluteArguments → Type 0
-WriteNoDumps arguments = (roms : List RomFile) → AreRomsOf arguments roms → ⊥
+-- the path of the first dump, and those that stand behind the first equals sign of each further one's text
+abbrev pub dump_paths : AbsoluteArguments → List (List ℕ)
+dump_paths arguments = arguments.bytes.now ∷ map (λ text. after_first (λ byte. byte == 61) text.now) arguments.further.items
 
--- A command line without numbers was refused before a file was read, or memory ran out; or the files were read, as far as they could be.
-pub data GivesUpDumps (arguments : AbsoluteArguments) (old new : Journal) : Type 0 where
-  before : new ≡ and_reported old → GivesUpDumps arguments old new
-  no_start : (IsWordText arguments.start.text.now → ⊥) → new ≡ and_blamed old → GivesUpDumps arguments old new
-  no_dumps : WriteNoDumps arguments → new ≡ and_blamed old → GivesUpDumps arguments old new
-  within : (roms : List RomFile) → AreRomsOf arguments roms → GivesUp (WritesDumps arguments roms) (rom_paths roms) old new
-      → GivesUpDumps arguments old new
+abbrev pub GivesDumps : AbsoluteArguments → (old new : Journal) → (status : ℕ) → Type 0
+GivesDumps arguments = Gives (WritesDumps arguments) (dump_paths arguments)
+
+abbrev pub GivesUpDumps : AbsoluteArguments → (old new : Journal) → Type 0
+GivesUpDumps arguments = GivesUp (WritesDumps arguments) (dump_paths arguments)
 
 -- ---- extract
 

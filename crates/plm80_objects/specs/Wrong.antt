@@ -7,7 +7,8 @@ use Rattle.link80.specs.{declared.linking.Linked.Linked, Selection.IsSelection}
 use Rattle.link80_text.specs.Parts.{IsMade}
 use Rattle.place80.specs.declared.options.Options.{Options}
 use Rattle.plm80_console.specs.{Answer.AnswerValue, Journal.FileValue}
-use Rattle.plm80_objects.specs.{declared.absolute.RomFile.RomFile, declared.locate.LocateArguments.LocateArguments, Absolute.AreDumps, Absolute.dumps_of}
+use Rattle.plm80_objects.specs.{declared.absolute.AbsoluteArguments.AbsoluteArguments, declared.absolute.RomFile.RomFile}
+use Rattle.plm80_objects.specs.{declared.locate.LocateArguments.LocateArguments, Absolute.AreDumps, Absolute.AreRomsOf, Absolute.dumps_of}
 use Rattle.plm80_objects.specs.Modules.{WritesLocated}
 
 -- they don't spell one module
@@ -30,3 +31,7 @@ LinksNone roots libraries = (made : Linked) → IsSelection roots libraries made
 -- whatever bytes the files behind these have, they are no dumps that can be one image
 abbrev pub HaveNoDumps : List RomFile → List FileValue → Type 0
 HaveNoDumps roms files = (others : List FileValue) → AreDumps (dumps_of roms (files ++ others)) → ⊥
+
+-- the arguments write no dumps
+abbrev pub WriteNoDumps : AbsoluteArguments → Type 0
+WriteNoDumps arguments = (roms : List RomFile) → AreRomsOf arguments roms → ⊥

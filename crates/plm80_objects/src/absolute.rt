@@ -3,8 +3,9 @@
 ghost use Rattle.std.specs.Prelude.{◌≡◌, ◌||◌, ◌++◌, ◌∷◌, ℕ, [], length, IfOk, IfErr, OnErr, OnOk};
 ghost use Rattle.rom80.specs.Rom.{ShareAnAddress, chunks_of, is_among, is_covered};
 ghost use Rattle.plm80_console.specs.Journal.{Blames, OnlyBlames, and_blamed, and_reported};
-ghost use Rattle.plm80_objects.specs.Absolute.{AreDumpsRead, AreRomFiles, GivesDumps, GivesUpDumps, IsRomFile, WriteNoDumps, WritesImage, rom_paths};
-ghost use Rattle.plm80_objects.specs.{Arguments.AreAbsoluteArguments, Compare.IsDump, RomFaults.IsRefusedWith, Wrong.HaveNoDumps};
+ghost use Rattle.plm80_objects.specs.Absolute.{AreRomFiles, GivesDumps, GivesUpDumps, IsRomFile, WritesImage};
+ghost use Rattle.plm80_objects.specs.{Arguments.AreAbsoluteArguments, Compare.IsDump, Wrong.HaveNoDumps, Wrong.WriteNoDumps};
+ghost use Rattle.plm80_objects.specs.RomFaults.{AreDumpsRead, IsRefusedWith, rom_paths};
 
 use crate::extract::FIRST;
 use crate::helpers::other_words::explain_dump;
