@@ -1,13 +1,13 @@
 -- A board whose file is read before the other files of a command, and the ranges that the command takes of it.
 -- (That a board stands in place of other options is this project's own.)
-use Rattle.std.specs.Prelude.{◌≡◌, ℕ, List, [], ◌∷◌, ◌++◌, Option, None, Some, codes, map, option_map}
+use Rattle.std.specs.Prelude.{◌≡◌, ℕ, List, [], ◌∷◌, ◌++◌, Option, None, Some, All, codes, map, option_map}
 use Rattle.std.specs.Borrow.{Bor}
 use Rattle.clap.specs.{declared.parser.matches.ArgMatches.ArgMatches, Matches.first_value, Matches.found_of}
 use Rattle.image80.specs.declared.range.Range.{Range}
 use Rattle.board80.specs.Board.{Spells, interrupts_of, ranges_of}
 use Rattle.board80.specs.declared.line.{Kind.Kind, Line.Line}
 use Rattle.board80.specs.declared.line.Kind.TheVariants.{Device, Ram}
-use Rattle.plm80_console.specs.{Answer.AnswerValue, NumberText.word_value, Ranges.AreRangesOf}
+use Rattle.plm80_console.specs.{Answer.AnswerValue, NumberText.IsWordText, NumberText.word_value, Ranges.AreRangesOf}
 use Rattle.plm80_console.specs.Journal.{FileValue, Journal, and_read_files}
 
 -- the path of a board's text, if one is given
@@ -64,3 +64,8 @@ AreDataRangesIn (Some board) texts ranges = ranges ≡ data_ranges_of board
 abbrev pub interrupts_in : Option (List Line) → (values : List (Bor (List ℕ))) → List ℕ
 interrupts_in None values = map (λ value. word_value value.now) values
 interrupts_in (Some board) values = interrupts_of board
+
+-- the values of an option write such addresses, which none has to if there is a board
+abbrev pub AreInterruptsIn : Option (List Line) → (values : List (Bor (List ℕ))) → Type 0
+AreInterruptsIn None values = All (λ value. IsWordText value.now) values
+AreInterruptsIn (Some board) values = Unit {0}

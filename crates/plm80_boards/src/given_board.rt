@@ -3,8 +3,8 @@
 ghost use Rattle.std.specs.Prelude.{◌≡◌, ◌≢◌, List, map, IfErr, IfOk};
 ghost use Rattle.board80.specs.Board.{Spells};
 ghost use Rattle.board80.specs.declared.line.{Kind.TheVariants.Ram, Kind.TheVariants.Rom, Line.Line};
-ghost use Rattle.plm80_console.specs.Journal.{Blames, OnlyBlames, and_reported};
-ghost use Rattle.plm80_boards.specs.Boards.{AreDataRangesIn, AreRangesIn, HaveNoBoard, IsBoardPath, IsBoardRead, board_paths, data_ranges_of, interrupts_in};
+ghost use Rattle.plm80_console.specs.Journal.{Blames, OnlyBlames};
+ghost use Rattle.plm80_boards.specs.Boards.{AreDataRangesIn, AreInterruptsIn, AreRangesIn, HaveNoBoard, IsBoardPath, IsBoardRead, board_paths, data_ranges_of, interrupts_in};
 
 use crate::board_words::explain_board_text;
 use board80::laws::text_of_board_is_read_as_itself;
@@ -55,7 +55,8 @@ impl GivenBoard {
     ) -> Result<Vec<Range>, Reported>
         ensures ranges { IfOk result (λ ranges. AreRangesIn Rom self.now.board (map (λ value. value.now) values.now) ranges.items) }
         ensures unchanged { IfOk result (λ _. C.journal console.new ≡ C.journal console.old) }
-        ensures fault { IfErr result (λ _. C.journal console.new ≡ and_reported (C.journal console.old)) }
+        ensures fault { let texts = map (λ value. value.now) values.now in
+            IfErr result (λ _. Blames ((ranges : List Range) → AreRangesIn Rom self.now.board texts ranges → ⊥) (C.journal console.old) (C.journal console.new)) }
     {
         self.ranges(console, Kind::Rom, name, values)
     }
@@ -69,7 +70,8 @@ impl GivenBoard {
     ) -> Result<Vec<Range>, Reported>
         ensures ranges { IfOk result (λ ranges. AreRangesIn Ram self.now.board (map (λ value. value.now) values.now) ranges.items) }
         ensures unchanged { IfOk result (λ _. C.journal console.new ≡ C.journal console.old) }
-        ensures fault { IfErr result (λ _. C.journal console.new ≡ and_reported (C.journal console.old)) }
+        ensures fault { let texts = map (λ value. value.now) values.now in
+            IfErr result (λ _. Blames ((ranges : List Range) → AreRangesIn Ram self.now.board texts ranges → ⊥) (C.journal console.old) (C.journal console.new)) }
     {
         self.ranges(console, Kind::Ram, name, values)
     }
@@ -83,7 +85,8 @@ impl GivenBoard {
     ) -> Result<Vec<Range>, Reported>
         ensures ranges { IfOk result (λ ranges. AreDataRangesIn self.now.board (map (λ value. value.now) values.now) ranges.items) }
         ensures unchanged { IfOk result (λ _. C.journal console.new ≡ C.journal console.old) }
-        ensures fault { IfErr result (λ _. C.journal console.new ≡ and_reported (C.journal console.old)) }
+        ensures fault { let texts = map (λ value. value.now) values.now in
+            IfErr result (λ _. Blames ((ranges : List Range) → AreDataRangesIn self.now.board texts ranges → ⊥) (C.journal console.old) (C.journal console.new)) }
     {
         match &self.board {
             None => ranges_of(console, name, values),
@@ -103,7 +106,8 @@ impl GivenBoard {
     ) -> Result<Vec<u16>, Reported>
         ensures addresses { IfOk result (λ addresses. addresses.items ≡ interrupts_in self.now.board values.now) }
         ensures unchanged { IfOk result (λ _. C.journal console.new ≡ C.journal console.old) }
-        ensures fault { IfErr result (λ _. C.journal console.new ≡ and_reported (C.journal console.old)) }
+        ensures written { IfOk result (λ _. AreInterruptsIn self.now.board values.now) }
+        ensures fault { IfErr result (λ _. Blames (AreInterruptsIn self.now.board values.now → ⊥) (C.journal console.old) (C.journal console.new)) }
     {
         match &self.board {
             None => words_of(console, name, values),
@@ -124,7 +128,8 @@ impl GivenBoard {
     ) -> Result<Vec<Range>, Reported>
         ensures ranges { IfOk result (λ ranges. AreRangesIn kind self.now.board (map (λ value. value.now) values.now) ranges.items) }
         ensures unchanged { IfOk result (λ _. C.journal console.new ≡ C.journal console.old) }
-        ensures fault { IfErr result (λ _. C.journal console.new ≡ and_reported (C.journal console.old)) }
+        ensures fault { let texts = map (λ value. value.now) values.now in
+            IfErr result (λ _. Blames ((ranges : List Range) → AreRangesIn kind self.now.board texts ranges → ⊥) (C.journal console.old) (C.journal console.new)) }
     {
         match &self.board {
             None => ranges_of(console, name, values),
