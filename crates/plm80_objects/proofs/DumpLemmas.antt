@@ -1,7 +1,7 @@
 -- The dumps that files have: one more beside those of files before it, or why it is none.
 use Rattle.std.specs.Prelude.{◌≢◌, ◌||◌, ◌==◌}
-use Rattle.std.specs.{List.AllZip, List.after_first, List.list_any, Str.Parse.AllDigits}
-use Rattle.std.proofs.Math.{Bool.or-false, Seq.drop-append-add, Seq.get_or-append_seam}
+use Rattle.std.specs.{List.AllZip, List.after_first, List.before_first, List.list_any, List.position_or_len, Str.Parse.AllDigits}
+use Rattle.std.proofs.Math.{Bool.or-false, Seq.drop-append-add, Seq.get_or-append_seam, Seq.take-append_seam}
 use Rattle.std.proofs.lemmas.{Bool.eq-eqb, Bool.ne_eqb, Grind.flat_map-append, List.Sums.position_or_len_is}
 use Rattle.std.proofs.lemmas.List.{get_or_append_left, length-append}
 use Rattle.std.proofs.lemmas.List.Elements.{All-push}
@@ -17,7 +17,7 @@ use Rattle.plm80_objects.proofs.Names.{◌≡◌, ℕ, ◌+◌, ◌<◌, Bool, L
 use Rattle.plm80_objects.proofs.Names.{arith, get_or, subst, sym, append-nil, append_assoc, take-append-drop, take_more, PlacedBytes, chunks_of, is_covered}
 use Rattle.plm80_objects.proofs.Names.{paths_of, FileValue, Journal, and_read, file_value, DumpValue, RomFile, AreRead, AreDumpsRead, chunks_from, rom_paths}
 use Rattle.plm80_objects.proofs.Names.{Bor, IsRomFile}
-use Rattle.plm80_objects.proofs.{FaultLemmas.split_once, ReadLemmas.one_read}
+use Rattle.plm80_objects.proofs.ReadLemmas.{one_read}
 
 abbrev pub rom_path : RomFile → List ℕ
 rom_path rom = rom.path.now
@@ -144,19 +144,32 @@ abbrev AreNamed : List (Bor (List ℕ)) → List RomFile → Type 0
 AreNamed = AllZip (λ (text : Bor (List ℕ)) (rom : RomFile). IsRomFile text.now rom)
 
 -- the first equals sign stands behind the digits
-behind_digits : (digits path : List ℕ) → AllDigits 16 digits → after_first (λ byte. byte == 61) (digits ++ 61 ∷ path) ≡ path
-behind_digits digits path all =
+sign_at : (digits path : List ℕ) → AllDigits 16 digits → position_or_len (λ byte. byte == 61) (digits ++ 61 ∷ path) ≡ length digits
+sign_at digits path all =
     let text = digits ++ 61 ∷ path in
-    let at = position_or_len_is (λ byte. byte == 61) text (length digits) 0 (omega (arith, length-append digits (61 ∷ path)))
+    position_or_len_is (λ byte. byte == 61) text (length digits) 0 (omega (arith, length-append digits (61 ∷ path)))
     (λ k below.
     ne_eqb (get_or text k 0) 61
     (subst (λ (n : ℕ). n ≢ 61) (sym (get_or_append_left digits (61 ∷ path) 0 k below)) (digits_without 61 (omega arith) digits all k below)))
-    (λ below. eq-eqb (get_or text (length digits) 0) 61 (get_or-append_seam digits 61 path 0)) in
-    ap (λ (n : ℕ). drop (n + 1) text) at ∙ drop-append-add digits (61 ∷ path) 1
+    (λ below. eq-eqb (get_or text (length digits) 0) 61 (get_or-append_seam digits 61 path 0))
 
 path_behind : (text : List ℕ) (rom : RomFile) → IsRomFile text rom → rom.path.now ≡ after_first (λ byte. byte == 61) text
 path_behind text rom is =
-    sym (ap (after_first (λ byte. byte == 61)) is.text_is ∙ behind_digits is.digits rom.path.now is.is_word.0.1)
+    let path = rom.path.now in
+    sym
+    (ap (after_first (λ byte. byte == 61)) is.text_is
+    ∙ ap (λ (n : ℕ). drop (n + 1) (is.digits ++ 61 ∷ path)) (sign_at is.digits path is.is_word.0.1)
+    ∙ drop-append-add is.digits (61 ∷ path) 1)
+
+address_before : (text : List ℕ) (rom : RomFile) → IsRomFile text rom → rom.first ≡ word_value (before_first (λ byte. byte == 61) text)
+address_before text rom is =
+    let path = rom.path.now in
+    is.first_is
+    ∙ ap word_value
+    (sym
+    (ap (before_first (λ byte. byte == 61)) is.text_is
+    ∙ ap (λ (n : ℕ). take n (is.digits ++ 61 ∷ path)) (sign_at is.digits path is.is_word.0.1)
+    ∙ take-append_seam is.digits (61 ∷ path)))
 
 paths_behind : (texts : List (Bor (List ℕ))) (roms : List RomFile) → AreNamed texts roms
     → rom_paths roms ≡ map (λ (text : Bor (List ℕ)). after_first (λ byte. byte == 61) text.now) texts
@@ -169,12 +182,6 @@ pub paths_are : (asked : AbsoluteArguments) (roms : List RomFile) → AreRomsOf 
 paths_are asked [] are = absurd are
 paths_are asked (rom ∷ roms) are = λ k. are.0 k ∷ paths_behind asked.further.items roms are.2 k
 
-one_address : (text : List ℕ) (a b : RomFile) → IsRomFile text a → IsRomFile text b → a.first ≡ b.first
-one_address text a b is are =
-    is.first_is
-    ∙ ap word_value (split_once 61 (omega arith) is.digits are.digits a.path.now b.path.now is.is_word.0.1 are.is_word.0.1 (sym is.text_is ∙ are.text_is)).0
-    ∙ sym are.first_is
-
 further_same : (texts : List (Bor (List ℕ))) (roms others : List RomFile) (files : List FileValue) → AreNamed texts roms → AreNamed texts others
     → dumps_of roms files ≡ dumps_of others files
 further_same [] [] [] files are are' = refl
@@ -184,7 +191,7 @@ further_same (text ∷ texts) [] others files are are' = absurd are
 further_same (text ∷ texts) (rom ∷ roms) [] files are are' = absurd are'
 further_same (text ∷ texts) (rom ∷ roms) (other ∷ others) [] are are' = refl
 further_same (text ∷ texts) (rom ∷ roms) (other ∷ others) (file ∷ files) are are' = λ k.
-    record { first = one_address text.now rom other are.0 are'.0 k; bytes = file.bytes } ∷ further_same texts roms others files are.1 are'.1 k
+    record { first = (address_before text.now rom are.0 ∙ sym (address_before text.now other are'.0)) k; bytes = file.bytes } ∷ further_same texts roms others files are.1 are'.1 k
 
 -- the arguments write one list of dumps
 pub dumps_same : (asked : AbsoluteArguments) (roms others : List RomFile) (files : List FileValue) → AreRomsOf asked roms → AreRomsOf asked others

@@ -2,7 +2,7 @@
 use Rattle.plm80_objects.proofs.Names.{◌≡◌, ℕ, ◌+◌, ◌<◌, List, [], ◌∷◌, ◌++◌, length, drop, take, slice_index_or, map, refl, Bor, ◌∙◌, ap}
 use Rattle.plm80_objects.proofs.Names.{arith, get_or, subst, sym, append-nil, append_assoc, map-append, map_more, take_more, ModuleValue, SpellsFile}
 use Rattle.plm80_objects.proofs.Names.{AnswerValue, paths_of, FileValue, Journal, and_read, and_read_files}
-use Rattle.plm80_objects.proofs.Names.{file_value, FaultsFollowReading, OnlyReports}
+use Rattle.plm80_objects.proofs.Names.{file_value, OnlyReports}
 use Rattle.plm80_objects.proofs.Names.{AnswersModules, OfProgram, AreRead, and_reported, take-append-drop}
 use Rattle.std.specs.Prelude.{◌≢◌}
 use Rattle.std.proofs.Common.{inl, inr}
@@ -107,15 +107,6 @@ module _ {A X : Type 0} (path_of : A → List ℕ) (xs : List A) (i : ℕ) {Have
       (ap (map path_of) (sym (take-append-drop i xs)) ∙ map-append path_of (take i xs) (drop i xs)
       ∙ ap (λ (ps : List (List ℕ)). ps ++ map path_of (drop i xs)) (sym so_far.paths_are))
       (is ∙ ap and_reported so_far.journal)
-
-  -- a fault as it is read, or behind that
-  pub faults_at : (d : A) → i < length xs → FaultsFollowReading → OnlyReports (path_of (get_or xs i d) ∷ []) between new
-      → OnlyReports (map path_of xs) old new
-  faults_at d below follow only =
-      follow old between new so_far.files (map path_of xs) (path_of (get_or xs i d) ∷ []) (map path_of (drop (i + 1) xs))
-      (paths_at path_of xs i d below
-      ∙ ap (λ (ps : List (List ℕ)). ps ++ (path_of (get_or xs i d) ∷ map path_of (drop (i + 1) xs))) (sym so_far.paths_are))
-      so_far.journal only
 
   -- what is wrong with the next one is wrong with one of all
   pub blames_at : (Wrong : List ℕ → Type 0) (d : A) → i < length xs → OnlyBlames (OfFirst Wrong) (path_of (get_or xs i d) ∷ []) between new
