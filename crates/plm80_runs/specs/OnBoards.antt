@@ -32,7 +32,7 @@ use Rattle.verify80_states.specs.QuietBoards.{is_quiet}
 
 -- ---- three files
 
--- they are read in this order
+-- the paths of a board and of a program, in the order in which they are read
 abbrev pub board_program_paths : BoardFiles → List (List ℕ)
 board_program_paths files = board_paths (Some files.board) ++ program_paths files.program
 
@@ -47,7 +47,7 @@ abbrev pub HaveNoBoardProgram : (asked : Bool) → List FileValue → Type 0
 HaveNoBoardProgram asked (board ∷ file ∷ files) = HaveNoProgram asked (file ∷ files)
 HaveNoBoardProgram asked files = HaveNoBoard files
 
--- such an answer to an image, if there is a board
+-- an answer to an image, if there is a board
 abbrev pub IfGiven : (Answers : List Line → Located → List Public → AnswerValue → Type 0) → Option (List Line) → Located → List Public →
     AnswerValue → Type 0
 IfGiven Answers None image publics answer = ⊥
@@ -64,14 +64,14 @@ AnswersBoard Answers files = WithBoard (Some files.board) (λ board. AnswersProg
 abbrev pub KeepsTable : Located → Table → Type 0
 KeepsTable image table = PromiseOf false image (is_quiet image.regions []) true table.ways.items table.listed table.bytes
 
--- the verifier refuses the image, and such a table follows its program
+-- the verifier refuses the image, and a table follows its program and keeps its promise
 pub record IsFollowed (image : Located) (publics : List Public) (same : Located) (table : Table) : Type 0 where
   pub image_is : same ≡ image
   pub line : List ℕ
   pub refused : IsRefusal image publics line
   pub promise : KeepsTable image table
 
--- the verifier accepts the image, or that
+-- why a program runs: the verifier accepts its image, or a table follows it
 abbrev pub HasGround : Located → List Public → Runnable → Type 0
 HasGround image publics (Accepted program) = IsAccepted image program
 HasGround image publics (Followed same table) = IsFollowed image publics same table
@@ -80,7 +80,7 @@ abbrev pub image_of : Runnable → Located
 image_of (Accepted program) = program.image
 image_of (Followed image table) = image
 
--- at most so many bytes of stack are needed
+-- how many bytes of stack a program needs at most
 abbrev pub stack_bytes_of : Runnable → ℕ
 stack_bytes_of (Accepted program) = program.stack_bytes
 stack_bytes_of (Followed image table) = table.bytes
@@ -99,12 +99,12 @@ pub record StandsFollowed (image : Located) (table : Table) (s : BoardState) : T
   pub same : world.machine ≡ s.machine
   pub keeps : KeepsFollowed image false table.bytes table.ways.items table.listed world
 
--- what is promised of a state
+-- what is promised of a state of a program's run
 abbrev pub KeepsPromise : Runnable → BoardState → Type 0
 KeepsPromise (Accepted program) s = StandsOnBoard program.image program.stack_bytes s
 KeepsPromise (Followed image table) s = StandsFollowed image table s
 
--- each state of each of its runs among devices in its data keeps that
+-- each state of each run of a program among devices in its data keeps what is promised
 abbrev pub RunsKeepPromise : Runnable → Type 0
 RunsKeepPromise program = (lines : List Line) → DevicesAreData lines (image_of program).regions → (most steps : ℕ) (s : BoardState) →
     IsReached lines (image_of program).regions most (board_start (image_of program)) steps s → KeepsPromise program s
@@ -114,12 +114,12 @@ pub record IsRunnable (image : Located) (publics : List Public) (program : Runna
   pub ground : HasGround image publics program
   pub promise : RunsKeepPromise program
 
--- A program that runs has such an answer; of another one the line of its refusal is printed alone, and the status is 1.
+-- An image whose program runs has an answer of the program; of another one the line of its refusal is printed alone, and the status is 1.
 pub data AnswersRunnable (Answers : Runnable → AnswerValue → Type 0) (image : Located) (publics : List Public) (answer : AnswerValue) : Type 0 where
   runs : (program : Runnable) → IsRunnable image publics program → Answers program answer → AnswersRunnable Answers image publics answer
   refused : (line : List ℕ) → IsRefusal image publics line → answer ≡ prints line 1 → AnswersRunnable Answers image publics answer
 
--- such an answer to a board and a program that runs, with its names, as three files have them; or the refusal
+-- an answer to a board, the names of a program and the program, as three files have them; or the image's refusal
 abbrev pub AnswersRunOnBoard : (Answers : List Line → List Public → Runnable → AnswerValue → Type 0) → BoardFiles → List FileValue → AnswerValue → Type 0
 AnswersRunOnBoard Answers = AnswersBoard (λ lines image publics. AnswersRunnable (Answers lines publics) image publics)
 
@@ -177,7 +177,7 @@ pub record BeginsTrace (limits : Limits) (span : Span) (lines : List Line) (publ
   pub are_lines : AreFirstLinesOf lines (image_of program).regions (board_start (image_of program)) limits span publics true text
   pub is : begun ≡ first_line program ++ text
 
--- what a trace is that is given up: that, or such a text alone
+-- what a trace is that is given up: the whole, or a text of first lines alone
 pub data TracesOnBoardInPart (limits : Limits) (span : Span) (lines : List Line) (publics : List Public) (program : Runnable) (answer : AnswerValue) : Type 0 where
   whole : TracesOnBoard limits span lines publics program answer → TracesOnBoardInPart limits span lines publics program answer
   first : (text : List ℕ) → BeginsTrace limits span lines publics program text → answer ≡ prints text 0 →
@@ -194,7 +194,7 @@ pub record TracesBoardBy (Traces : Limits → Span → List Line → List Public
 abbrev pub TracesBoardFiles : BoardTraceArguments → List FileValue → AnswerValue → Type 0
 TracesBoardFiles = TracesBoardBy TracesOnBoard
 
--- what is given up of it
+-- what is given up of a trace
 abbrev pub TracesBoardFilesInPart : BoardTraceArguments → List FileValue → AnswerValue → Type 0
 TracesBoardFilesInPart = TracesBoardBy TracesOnBoardInPart
 
@@ -205,13 +205,13 @@ abbrev pub AreReachable : Runnable → List (Option Fetched) → Type 0
 AreReachable (Accepted program) reached = AreReached (code_of program.image) reached
 AreReachable (Followed image table) reached = AreFollowed image (places_of table []) reached
 
--- a text is the lines of these instructions with their counts, those of the data between them, and the sums
+-- a text is the lines of a program's code: of the instructions to which it may come, with their counts, and of data; and the sums
 pub record CoversProgram (program : Runnable) (counts text : List ℕ) : Type 0 where
   pub reached : List (Option Fetched)
   pub are_reachable : AreReachable program reached
   pub lines : text ≡ cover_lines true counts (image_of program).regions (memory_of (image_of program).chunks) reached ++ sums_line counts reached
 
--- The program's first line is printed, and behind it such lines, with the counts of the program's run on the board; the status is the run's.
+-- The program's first line is printed, and behind it its code with the counts of its run on the board; the status is the run's.
 pub record CoversOnBoard (limits : Limits) (lines : List Line) (publics : List Public) (program : Runnable) (answer : AnswerValue) : Type 0 where
   pub counts : BoardCounts
   pub counted : IsCounted lines (image_of program) limits counts
