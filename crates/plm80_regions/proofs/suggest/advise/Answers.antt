@@ -28,8 +28,8 @@ of_any_regions image areas known first second tableless notes new s = record {
   same = s.same;
 }
 
-pub returns : goal.returns
-returns c =
+pub returns-clause-advised : goal.returns-clause-advised
+returns-clause-advised c =
     let known = c.args.known in
     let areas = c.in_ok-image-inside.field-0 in
     let advice = c.in_ok-advice.advice in
@@ -39,6 +39,7 @@ returns c =
       suggested = of_any_regions c.args.image.now areas known advice.first advice.second advice.tableless.items advice.notes.items new
           (subst (λ (i : Located). IsSuggestion (with_regions i areas) known advice.first advice.second advice.tableless.items advice.notes.items new)
           c.image.view_is c.in_ok-advice.ensures);
+      fits = ?;
       within = subst (λ (i : Located). length (regions_text i.regions) ≤ text_limit) c.image-2.view_is c.in_ok-answer.ensures.within;
       answer_is = c.in_ok-answer.ensures.answer
           ∙ ap (λ (i : Located). prints (regions_text i.regions) (notes_status c.deref.result.now)) c.image-2.view_is
