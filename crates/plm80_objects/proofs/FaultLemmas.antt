@@ -1,18 +1,12 @@
 -- A fault that is blamed is there: of what the files are, and of arguments, there is one reading.
-use Rattle.std.specs.Prelude.{◌<◌, ◌≢◌, ◌⊎◌, None, Option, Some}
-use Rattle.std.specs.Char.{digit_value}
+use Rattle.std.specs.Prelude.{◌≢◌, ◌⊎◌, None, Option, Some}
 use Rattle.std.proofs.Common.{inl, inr}
 use Rattle.std.proofs.lemmas.{Bool.false≢true, Option.none-some}
-use Rattle.std.specs.Str.Parse.{AllDigits}
 use Rattle.omf_module.specs.ReadingLaws.{OneFile}
 use Rattle.omf_library.specs.Laws.{OneLibrary}
-use Rattle.board80.specs.declared.line.{Kind.Kind, Line.Line}
 use Rattle.link80.specs.Selection.{IsSelection}
 use Rattle.link80_text.specs.Parts.{IsMade}
 use Rattle.place80.specs.declared.options.Options.{Options}
-use Rattle.plm80_boards.specs.Boards.{AreRangesIn}
-use Rattle.plm80_console.specs.Ranges.{IsRangeText, AreRangesOf.none as no_ranges, AreRangesOf.more as more_ranges}
-use Rattle.plm80_console.specs.NumberText.{word_value}
 use Rattle.plm80_files.specs.{LinkFiles.SpellsEither, Wrong.OfFirst, Wrong.SpellsNeither, Wrong.SpellsNoModules, WrongLaws.of_first}
 use Rattle.plm80_files.specs.declared.link_feed.LinkFile.TheVariants.{Library, Modules}
 use Rattle.plm80_objects.specs.Arguments.{AreNumbersOf}
@@ -21,9 +15,9 @@ use Rattle.plm80_objects.specs.Find.{AreLinkFiles.more as more_files, AreLinkFil
 use Rattle.plm80_objects.specs.Link.{AddsFile, AreLinkFilesOf.more as more_link_files, AreLinkFilesOf.none as no_link_file}
 use Rattle.plm80_objects.specs.Modules.{AreModulesOf.more as more_modules, AreModulesOf.none as no_modules_of}
 use Rattle.plm80_objects.specs.Wrong.{LinksNone, OfOne, SpellsNoProgram}
-use Rattle.plm80_objects.proofs.Names.{◌≡◌, ℕ, List, [], ◌∷◌, ◌++◌, drop, length, slice_index_or, refl, ◌∙◌, ap, arith, sym, subst, append-nil}
-use Rattle.plm80_objects.proofs.Names.{AnswerValue, AnswersModules, AreLinkFiles, AreLinkFilesOf, AreModulesOf, AreRangesOf, FileValue, FindsModules, LinkFile, LinksFiles, ModuleValue, OfProgram}
-use Rattle.plm80_objects.proofs.Names.{Range, SpellsFile, paths_of}
+use Rattle.plm80_objects.proofs.Names.{◌≡◌, ℕ, List, [], ◌∷◌, ◌++◌, drop, length, slice_index_or, refl, ◌∙◌, ap, sym, subst, append-nil}
+use Rattle.plm80_objects.proofs.Names.{AnswerValue, AnswersModules, AreLinkFiles, AreLinkFilesOf, AreModulesOf, FileValue, FindsModules, LinkFile, LinksFiles, ModuleValue, OfProgram}
+use Rattle.plm80_objects.proofs.Names.{SpellsFile, paths_of}
 use Rattle.plm80_objects.proofs.ReadLemmas.{alone, none_of, one_before}
 
 -- ---- lists
@@ -95,41 +89,6 @@ one_numbers texts a b is are = λ k. record {
   stack_size = (is.stack_size.1 ∙ sym are.stack_size.1) k;
   memory_size = (is.memory_size.1 ∙ sym are.memory_size.1) k;
 }
-
--- digits up to a colon
-split_once : (xs ys : List ℕ) (rest behind : List ℕ) → AllDigits 16 xs → AllDigits 16 ys → xs ++ 58 ∷ rest ≡ ys ++ 58 ∷ behind → (xs ≡ ys) × (rest ≡ behind)
-split_once [] [] rest behind all each same = (refl, ap (λ (l : List ℕ). drop 1 l) same)
-split_once [] (y ∷ ys) rest behind all each same =
-    absurd (omega (arith, subst (λ (n : ℕ). digit_value n < 16) (sym (ap (λ (l : List ℕ). slice_index_or l 0 0) same)) each.0))
-split_once (x ∷ xs) [] rest behind all each same =
-    absurd (omega (arith, subst (λ (n : ℕ). digit_value n < 16) (ap (λ (l : List ℕ). slice_index_or l 0 0) same) all.0))
-split_once (x ∷ xs) (y ∷ ys) rest behind all each same =
-    let more = split_once xs ys rest behind all.1 each.1 (ap (λ (l : List ℕ). drop 1 l) same) in
-    let first : x ≡ y = ap (λ (l : List ℕ). slice_index_or l 0 x) same in
-    ((λ k. first k ∷ more.0 k), more.1)
-
-one_range : (text text' : List ℕ) (a b : Range) → IsRangeText text a → IsRangeText text' b → text ≡ text' → a ≡ b
-one_range text text' a b is are same =
-    let both = split_once is.before are.before is.behind are.behind is.is_first.0.1 are.is_first.0.1 (sym is.text_is ∙ same ∙ are.text_is) in
-    λ k. record {
-      first = (is.first_is ∙ ap word_value both.0 ∙ sym are.first_is) k;
-      length = (is.length_is ∙ ap word_value both.1 ∙ sym are.length_is) k;
-    }
-
-ranges_same : (texts texts' : List (List ℕ)) (a b : List Range) → AreRangesOf texts a → AreRangesOf texts' b → texts ≡ texts' → a ≡ b
-ranges_same _ _ _ _ no_ranges no_ranges same = refl
-ranges_same _ _ _ _ no_ranges (more_ranges texts text ranges range are is) same = absurd (not_snoc texts text same)
-ranges_same _ _ _ _ (more_ranges texts text ranges range are is) no_ranges same = absurd (not_snoc texts text (sym same))
-ranges_same _ _ _ _ (more_ranges texts text ranges range are is) (more_ranges texts' text' ranges' range' are' is') same =
-    let both = snoc_same texts texts' text text' same in
-    let before = ranges_same texts texts' ranges ranges' are are' both.0 in
-    let last = one_range text text' range range' is is' both.1 in
-    λ k. before k ++ last k ∷ []
-
-pub one_list_of_ranges : (kind : Kind) (board : Option (List Line)) (texts : List (List ℕ)) (a b : List Range) → AreRangesIn kind board texts a
-    → AreRangesIn kind board texts b → a ≡ b
-one_list_of_ranges kind None texts a b is are = ranges_same texts texts a b is are refl
-one_list_of_ranges kind (Some board) texts a b is are = is ∙ sym are
 
 -- ---- the files of `link`
 

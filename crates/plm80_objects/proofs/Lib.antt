@@ -1,3 +1,4 @@
+mod DumpLemmas
 mod FaultLemmas
 mod Names
 mod ReadLemmas

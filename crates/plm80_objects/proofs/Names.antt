@@ -6,11 +6,10 @@ pub use Rattle.omf_module.specs.Spelled.{SpellsFile}
 pub use Rattle.omf_text.specs.ModuleText.{module_text}
 pub use Rattle.plm80_console.specs.Answer.{AnswerValue, GaveUp, Gives, GivesUp, IsGiven, IsGivenUp}
 pub use Rattle.plm80_console.specs.Journal.{FileValue, Journal, OnlyReports, and_read, and_read_files, and_reported, file_value, paths_of}
-pub use Rattle.plm80_console.specs.{JournalLaws.FaultsFollowReading, Ranges.AreRangesOf}
 pub use Rattle.plm80_files.specs.declared.link_feed.LinkFile.{LinkFile}
 pub use Rattle.plm80_names.specs.Printed.{AreNamesOf}
-pub use Rattle.plm80_objects.specs.Absolute.{AreDumpsRead, AreRomFiles, ExtractsFile, GivesUpDumps, IsRomFile, WritesDumps, WritesImage}
-pub use Rattle.plm80_objects.specs.Absolute.{chunks_from, rom_paths}
+pub use Rattle.plm80_objects.specs.Absolute.{AreRomFiles, ExtractsFile, IsRomFile, WritesDumps, WritesImage, chunks_from}
+pub use Rattle.plm80_objects.specs.RomFaults.{AreDumpsRead, rom_paths}
 pub use Rattle.plm80_objects.specs.Find.{AreFilesRead, AreLinkFiles, FindsModules, PrintsFile, PrintsFiles, PrintsFound}
 pub use Rattle.plm80_objects.specs.Link.{AreLinkFilesOf, AreLinkFilesRead, LinksFiles, LinksInto, named_line, root_paths}
 pub use Rattle.plm80_objects.specs.Link.{taken_line}

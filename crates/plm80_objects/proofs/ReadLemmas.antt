@@ -1,13 +1,13 @@
 -- Files that are read one after another, and what they have.
 use Rattle.plm80_objects.proofs.Names.{◌≡◌, ℕ, ◌+◌, ◌<◌, List, [], ◌∷◌, ◌++◌, length, drop, take, slice_index_or, map, refl, Bor, ◌∙◌, ap}
 use Rattle.plm80_objects.proofs.Names.{arith, get_or, subst, sym, append-nil, append_assoc, map-append, map_more, take_more, ModuleValue, SpellsFile}
-use Rattle.plm80_objects.proofs.Names.{PlacedBytes, chunks_of, AnswerValue, paths_of, FileValue, Journal, and_read, and_read_files}
-use Rattle.plm80_objects.proofs.Names.{file_value, FaultsFollowReading, OnlyReports, RomFile, AreDumpsRead, chunks_from, rom_paths}
+use Rattle.plm80_objects.proofs.Names.{AnswerValue, paths_of, FileValue, Journal, and_read, and_read_files}
+use Rattle.plm80_objects.proofs.Names.{file_value, OnlyReports}
 use Rattle.plm80_objects.proofs.Names.{AnswersModules, OfProgram, AreRead, and_reported, take-append-drop}
 use Rattle.std.specs.Prelude.{◌≢◌}
 use Rattle.std.proofs.Common.{inl, inr}
-use Rattle.plm80_console.specs.AnswerLaws.{more_blamed}
-use Rattle.plm80_console.specs.Journal.{OnlyBlames, and_blamed, OnlyBlames.other, OnlyBlames.wrong, OnlyReports.read as read_it, OnlyReports.unread as nothing_read}
+use Rattle.plm80_console.specs.AnswerLaws.{blamed_after, more_blamed}
+use Rattle.plm80_console.specs.Journal.{Blames, OnlyBlames, and_blamed, OnlyBlames.other, OnlyBlames.wrong, OnlyReports.read as read_it, OnlyReports.unread as nothing_read}
 use Rattle.plm80_files.specs.Wrong.{OfFirst}
 use Rattle.plm80_objects.specs.Wrong.{OfOne}
 use Rattle.rom80.specs.declared.fault.RomFault.{RomFault, TheVariants.PastMemory, TheVariants.EmptyFile, TheVariants.DumpsOverlap, TheVariants.Memory}
@@ -108,15 +108,6 @@ module _ {A X : Type 0} (path_of : A → List ℕ) (xs : List A) (i : ℕ) {Have
       ∙ ap (λ (ps : List (List ℕ)). ps ++ map path_of (drop i xs)) (sym so_far.paths_are))
       (is ∙ ap and_reported so_far.journal)
 
-  -- a fault as it is read, or behind that
-  pub faults_at : (d : A) → i < length xs → FaultsFollowReading → OnlyReports (path_of (get_or xs i d) ∷ []) between new
-      → OnlyReports (map path_of xs) old new
-  faults_at d below follow only =
-      follow old between new so_far.files (map path_of xs) (path_of (get_or xs i d) ∷ []) (map path_of (drop (i + 1) xs))
-      (paths_at path_of xs i d below
-      ∙ ap (λ (ps : List (List ℕ)). ps ++ (path_of (get_or xs i d) ∷ map path_of (drop (i + 1) xs))) (sym so_far.paths_are))
-      so_far.journal only
-
   -- what is wrong with the next one is wrong with one of all
   pub blames_at : (Wrong : List ℕ → Type 0) (d : A) → i < length xs → OnlyBlames (OfFirst Wrong) (path_of (get_or xs i d) ∷ []) between new
       → OnlyBlames (OfOne Wrong) (map path_of xs) old new
@@ -126,6 +117,15 @@ module _ {A X : Type 0} (path_of : A → List ℕ) (xs : List A) (i : ℕ) {Have
       (paths_at path_of xs i d below
       ∙ ap (λ (ps : List (List ℕ)). ps ++ (path_of (get_or xs i d) ∷ behind)) (sym so_far.paths_are))
       so_far.journal (one_behind Wrong so_far.files) (more_blamed behind blames)
+
+  -- what is wrong with those that were read is wrong with all
+  pub blames_before : {Wrong : Type 0} (More : List FileValue → Type 0) → (Wrong → More so_far.files) → Blames Wrong between new
+      → OnlyBlames More (map path_of xs) old new
+  blames_before More more blames =
+      subst (λ (ps : List (List ℕ)). OnlyBlames More ps old new)
+      (sym (map-append path_of (take i xs) (drop i xs)) ∙ ap (map path_of) (take-append-drop i xs))
+      (more_blamed (map path_of (drop i xs))
+      (blamed_after old between new so_far.files (map path_of (take i xs)) so_far.paths_are so_far.journal More more blames))
 
 -- a fault behind all files
 pub all_read : {X : Type 0} {Have : List FileValue → X → Type 0} {paths : List (List ℕ)} {old between new : Journal} {x : X}
@@ -138,30 +138,6 @@ pub read_then_reported : (path bytes : List ℕ) (old between new : Journal) →
 read_then_reported path bytes old between new were is = read_it (file_value path bytes ∷ []) [] refl (is ∙ ap and_reported were)
 
 -- ---- dumps
-
-abbrev pub rom_path : RomFile → List ℕ
-rom_path rom = rom.path.now
-
-chunks_more : (roms : List RomFile) (files : List FileValue) (rom : RomFile) (file : FileValue) → paths_of files ≡ rom_paths roms
-    → chunks_from (roms ++ rom ∷ []) (files ++ file ∷ []) ≡ chunks_from roms files ++ chunks_of rom.first file.bytes
-chunks_more [] [] rom file are = append-nil (chunks_of rom.first file.bytes)
-chunks_more [] (f ∷ files) rom file are = absurd cc
-chunks_more (r ∷ roms) [] rom file are = absurd cc
-chunks_more (r ∷ roms) (f ∷ files) rom file are =
-    ap (λ (cs : List PlacedBytes). chunks_of r.first f.bytes ++ cs) (chunks_more roms files rom file (ap (drop 1) are))
-    ∙ sym (append_assoc (chunks_of r.first f.bytes) (chunks_from roms files) (chunks_of rom.first file.bytes))
-
-pub dumps_more : (roms : List RomFile) (i : ℕ) (d : RomFile) (bytes : List ℕ) (old between new : Journal) (chunks all : List PlacedBytes)
-    → i < length roms → AreDumpsRead (take i roms) old between chunks → new ≡ and_read between (get_or roms i d).path.now bytes
-    → all ≡ chunks ++ chunks_of (get_or roms i d).first bytes → AreDumpsRead (take (i + 1) roms) old new all
-dumps_more roms i d bytes old between new chunks all below read one are =
-    let rom = get_or roms i d in
-    one_read rom_path roms i d old between new (λ (files : List FileValue) (cs : List PlacedBytes). cs ≡ chunks_from (take i roms) files)
-    (λ (files : List FileValue) (cs : List PlacedBytes). cs ≡ chunks_from (take (i + 1) roms) files) bytes chunks all all below read one refl
-    (λ files named have.
-    are ∙ ap (λ (cs : List PlacedBytes). cs ++ chunks_of rom.first bytes) have
-    ∙ sym (chunks_more (take i roms) files rom (file_value rom.path.now bytes) named)
-    ∙ ap (λ (rs : List RomFile). chunks_from rs (files ++ file_value rom.path.now bytes ∷ [])) (sym (take_more roms i d below)))
 
 -- what is no dump alone
 pub refused_dump : (first : ℕ) (bytes : List ℕ) (fault : RomFault) → fault ≢ Memory → IsRefused first bytes fault → IsDump first bytes → ⊥

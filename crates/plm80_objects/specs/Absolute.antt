@@ -1,15 +1,17 @@
 -- What `absolute` writes: the image of dumps; and `extract`: bytes of an image.
 -- (ISIS-II User's Guide: absolute object modules.)
-use Rattle.std.specs.Prelude.{◌≡◌, ◌<◌, ◌+◌, ℕ, if◌then◌else◌, List, [], ◌∷◌, ◌++◌, map}
-use Rattle.std.specs.{Borrow.Bor, List.AllZip}
+use Rattle.std.specs.Prelude.{◌≡◌, ◌==◌, ◌<◌, ◌+◌, ℕ, Bool, true, if◌then◌else◌, All, IsTrue, List, [], ◌∷◌, ◌++◌, length, map}
+use Rattle.std.specs.{Borrow.Bor, List.AllPairs, List.AllZip, List.after_first, List.flat_map}
+use Rattle.omf_core.specs.Name.{is_name}
 use Rattle.image80.specs.Image.{Located, PlacedBytes}
 use Rattle.image80_file.specs.ImageFile.{SpellsImage, image_bytes, without_regions}
-use Rattle.rom80.specs.Rom.{bytes_over, chunks_of, sum_line}
+use Rattle.rom80.specs.Rom.{bytes_over, chunks_of, is_among, sum_line}
+use Rattle.rom80_find.specs.Dump.{DumpValue}
 use Rattle.plm80_console.specs.Answer.{AnswerValue, Gives, GivesUp, writes}
-use Rattle.plm80_console.specs.{Journal.FileValue, Journal.Journal, Journal.and_blamed, Journal.and_reported, NumberText.IsWordText, NumberText.word_value}
+use Rattle.plm80_console.specs.{Journal.FileValue, Journal.Journal, NumberText.IsWordText, NumberText.word_value}
 use Rattle.plm80_objects.specs.{declared.absolute.AbsoluteArguments.AbsoluteArguments, declared.absolute.RomFile.RomFile}
 use Rattle.plm80_objects.specs.{declared.extract.Extent.Extent, declared.extract.ExtractArguments.ExtractArguments, Arguments.IsExtentOf}
-use Rattle.plm80_objects.specs.{Read.AreRead}
+use Rattle.plm80_objects.specs.{Compare.IsDump}
 
 -- the image of a name, with these chunks and this start, goes to its path
 pub record WritesImage (path name : List ℕ) (chunks : List PlacedBytes) (start : ℕ) (answer : AnswerValue) : Type 0 where
@@ -32,44 +34,50 @@ AreRomFiles path first further [] = ⊥
 AreRomFiles path first further (file ∷ files) =
     (file.path.now ≡ path) × (IsWordText first × (file.first ≡ word_value first)) × AllZip (λ text rom. IsRomFile text.now rom) further files
 
--- the chunks of files' bytes, each from its address on, one after another
-abbrev pub chunks_from : List RomFile → List FileValue → List PlacedBytes
-chunks_from (rom ∷ roms) (file ∷ files) = chunks_of rom.first file.bytes ++ chunks_from roms files
-chunks_from roms files = []
+-- the dumps that files have, each from its address on
+abbrev pub dumps_of : List RomFile → List FileValue → List DumpValue
+dumps_of (rom ∷ roms) (file ∷ files) = record { first = rom.first; bytes = file.bytes } ∷ dumps_of roms files
+dumps_of roms files = []
 
-abbrev pub rom_paths : List RomFile → List (List ℕ)
-rom_paths roms = map (λ (rom : RomFile). rom.path.now) roms
+-- the dump has a byte at the address
+abbrev pub has_byte : (address : ℕ) → DumpValue → Bool
+has_byte address dump = is_among dump.first (length dump.bytes) address
 
--- all of these files were read, and these are the chunks of their bytes
-abbrev pub AreDumpsRead : (roms : List RomFile) → (old new : Journal) → (chunks : List PlacedBytes) → Type 0
-AreDumpsRead roms = AreRead (λ files chunks. chunks ≡ chunks_from roms files) (rom_paths roms)
+-- two dumps have a byte at one address
+abbrev pub Overlap : DumpValue → DumpValue → Type 0
+Overlap dump other = (address : ℕ) × (has_byte address dump ≡ true) × (has_byte address other ≡ true)
 
--- the image of their dumps goes to its path
-abbrev pub WritesDumps : AbsoluteArguments → List RomFile → List FileValue → AnswerValue → Type 0
-WritesDumps arguments roms files answer =
-    WritesImage arguments.image.now arguments.name.text.now (chunks_from roms files) (word_value arguments.start.text.now) answer
+-- each of these dumps has bytes and ends in memory, and no two overlap
+pub record AreDumps (dumps : List DumpValue) : Type 0 where
+  pub whole : All (λ dump. IsDump dump.first dump.bytes) dumps
+  pub apart : AllPairs (λ dump other. Overlap dump other → ⊥) dumps
+
+-- the chunks of dumps, one after another
+abbrev pub chunks_from : List DumpValue → List PlacedBytes
+chunks_from dumps = flat_map (λ dump. chunks_of dump.first dump.bytes) dumps
 
 -- the files and their addresses are those that the arguments write
 abbrev pub AreRomsOf : AbsoluteArguments → List RomFile → Type 0
 AreRomsOf arguments roms = AreRomFiles arguments.bytes.now arguments.first.text.now arguments.further.items roms
 
-pub record GivesDumps (arguments : AbsoluteArguments) (old new : Journal) (status : ℕ) : Type 0 where
+-- the image of the dumps that the arguments write, which has a name and a start, goes to its path
+pub record WritesDumps (arguments : AbsoluteArguments) (files : List FileValue) (answer : AnswerValue) : Type 0 where
   pub roms : List RomFile
   pub are_roms : AreRomsOf arguments roms
-  pub start : IsWordText arguments.start.text.now
-  pub gives : Gives (WritesDumps arguments roms) (rom_paths roms) old new status
+  pub named : IsTrue (is_name arguments.name.text.now)
+  pub starts : IsWordText arguments.start.text.now
+  pub are_dumps : AreDumps (dumps_of roms files)
+  pub writes : WritesImage arguments.image.now arguments.name.text.now (chunks_from (dumps_of roms files)) (word_value arguments.start.text.now) answer
 
--- the arguments write no dumps
-abbrev pub WriteNoDumps : AbsoluteArguments → Type 0
-WriteNoDumps arguments = (roms : List RomFile) → AreRomsOf arguments roms → ⊥
+-- the path of the first dump, and those that stand behind the first equals sign of each further one's text
+abbrev pub dump_paths : AbsoluteArguments → List (List ℕ)
+dump_paths arguments = arguments.bytes.now ∷ map (λ text. after_first (λ byte. byte == 61) text.now) arguments.further.items
 
--- A command line without numbers was refused before a file was read, or memory ran out; or the files were read, as far as they could be.
-pub data GivesUpDumps (arguments : AbsoluteArguments) (old new : Journal) : Type 0 where
-  before : new ≡ and_reported old → GivesUpDumps arguments old new
-  no_start : (IsWordText arguments.start.text.now → ⊥) → new ≡ and_blamed old → GivesUpDumps arguments old new
-  no_dumps : WriteNoDumps arguments → new ≡ and_blamed old → GivesUpDumps arguments old new
-  within : (roms : List RomFile) → AreRomsOf arguments roms → GivesUp (WritesDumps arguments roms) (rom_paths roms) old new
-      → GivesUpDumps arguments old new
+abbrev pub GivesDumps : AbsoluteArguments → (old new : Journal) → (status : ℕ) → Type 0
+GivesDumps arguments = Gives (WritesDumps arguments) (dump_paths arguments)
+
+abbrev pub GivesUpDumps : AbsoluteArguments → (old new : Journal) → Type 0
+GivesUpDumps arguments = GivesUp (WritesDumps arguments) (dump_paths arguments)
 
 -- ---- extract
 

@@ -1,7 +1,8 @@
 -- What `link` writes and prints, and what `lib` writes.
 -- (ISIS-II User's Guide, LINK and LIB. The form of the lines is this project's own.)
-use Rattle.std.specs.Prelude.{◌≡◌, ◌⊎◌, ℕ, Bool, true, false, Option, Some, None, List, [], ◌∷◌, ◌++◌, length, map, codes}
+use Rattle.std.specs.Prelude.{◌≡◌, ◌⊎◌, ℕ, Bool, true, false, Option, Some, None, IsTrue, List, [], ◌∷◌, ◌++◌, length, map, codes}
 use Rattle.std.specs.List.{flat_map, repeat}
+use Rattle.omf_core.specs.Name.{is_name}
 use Rattle.omf_model.specs.Modules.{ModuleValue}
 use Rattle.omf_module.specs.Writing.{file_bytes}
 use Rattle.link80_select.specs.{declared.chosen.Chosen.Chosen, Selected.module_at}
@@ -108,8 +109,9 @@ pub record LinksInto (path : List ℕ) (wanted : LinkLines) (name : List ℕ) (f
   pub name_is : made.module.name ≡ name
   pub writes : WritesLinked path wanted files.roots.items files.libraries.items (map (λ p. p.now) files.paths.items) made answer
 
--- the same of files that were read, by the arguments
+-- the same of files that were read, by the arguments, whose name is one of a module
 pub record LinksFiles (arguments : LinkArguments) (read : List FileValue) (answer : AnswerValue) : Type 0 where
+  pub named : IsTrue (is_name arguments.name.text.now)
   pub files : LinkFiles
   pub are : AreLinkFilesOf read files
   pub links : LinksInto arguments.out.now arguments.lines arguments.name.text.now files answer

@@ -1,18 +1,18 @@
 //! `plm80 absolute`: the image of bytes as they are.
 
-ghost use Rattle.std.specs.Prelude.{◌≡◌, ◌||◌, ◌++◌, ◌∷◌, ℕ, [], length, IfOk, IfErr, OnOk};
-ghost use Rattle.rom80.specs.Rom.{chunks_of, is_among, is_covered};
-ghost use Rattle.plm80_console.specs.Journal.{Blames, OnlyReports, and_reported};
-ghost use Rattle.plm80_objects.specs.Absolute.{AreDumpsRead, AreRomFiles, GivesDumps, GivesUpDumps, IsRomFile, WriteNoDumps, WritesImage, rom_paths};
-ghost use Rattle.plm80_objects.specs.{Arguments.AreAbsoluteArguments, RomFaults.IsRefusedWith};
+ghost use Rattle.std.specs.Prelude.{◌≡◌, ◌||◌, ◌++◌, ◌∷◌, ℕ, [], length, IfOk, IfErr, OnErr, OnOk};
+ghost use Rattle.rom80.specs.Rom.{ShareAnAddress, chunks_of, is_among, is_covered};
+ghost use Rattle.plm80_console.specs.Journal.{Blames, OnlyBlames, and_blamed, and_reported};
+ghost use Rattle.plm80_objects.specs.Absolute.{AreRomFiles, GivesDumps, GivesUpDumps, IsRomFile, WritesImage};
+ghost use Rattle.plm80_objects.specs.{Arguments.AreAbsoluteArguments, Compare.IsDump, Wrong.HaveNoDumps, Wrong.WriteNoDumps};
+ghost use Rattle.plm80_objects.specs.RomFaults.{AreDumpsRead, IsRefusedWith, rom_paths};
 
 use crate::extract::FIRST;
 use crate::helpers::other_words::explain_dump;
-use crate::helpers::rom_faults::report_rom_fault;
+use crate::helpers::rom_faults::blame_rom_fault;
 use clap::ArgMatches;
 use image80_file::write_image;
 use omf_core::Name;
-use plm80_console::laws::faults_follow_reading;
 use plm80_console::{
     Answer, Argument, Console, FaultOf, Kind, OptionText, ReadFile, Reported, Syntax,
     argument_text, argument_values, word_of_digits,
@@ -189,16 +189,17 @@ fn add_file<'a, C: Console>(
 /// four hexadecimal digits before it.
 fn file_of<'a, C: Console>(console: &mut C, text: &'a str) -> Result<RomFile<'a>, Reported>
     ensures file { IfOk result (IsRomFile text.now) }
+    ensures wrong { OnErr result ((file : RomFile) → IsRomFile text.now file → ⊥) }
     ensures unchanged { IfOk result (λ _. C.journal console.new ≡ C.journal console.old) }
-    ensures fault { IfErr result (λ _. C.journal console.new ≡ and_reported (C.journal console.old)) }
+    ensures failed { IfErr result (λ _. C.journal console.new ≡ and_blamed (C.journal console.old)) }
 {
     let option = OptionText::new(FURTHER, text);
     let Some((first, path)) = text.split_once('=') else {
-        return Err(option.report_number(console, "an address, an equals sign and a file"));
+        return Err(option.blame_number(console, "an address, an equals sign and a file"));
     };
     match word_of_digits(first) {
         Some(first) => Ok(RomFile { first, path }),
-        None => Err(option.report_number(console, "an address of one to four hexadecimal digits")),
+        None => Err(option.blame_number(console, "an address of one to four hexadecimal digits")),
     }
 }
 
@@ -211,9 +212,8 @@ fn read_dumps<C: Console>(
 ) -> Result<(Dumps, bool), Reported>
     ensures dumps { IfOk result (λ read. AreDumpsRead files.now (C.journal console.old) (C.journal console.new) read.0) }
     ensures start { IfOk result (λ read. read.1 ≡ is_covered read.0 start) }
-    ensures fault { IfErr result (λ _. OnlyReports (rom_paths files.now) (C.journal console.old) (C.journal console.new)) }
+    ensures fault { IfErr result (λ _. OnlyBlames (HaveNoDumps files.now) (rom_paths files.now) (C.journal console.old) (C.journal console.new)) }
 {
-    faults_follow_reading();
     let mut dumps = Dumps::new(console.alloc());
     let mut has_start = false;
     for rom in files {
@@ -221,7 +221,7 @@ fn read_dumps<C: Console>(
         has_start |= has_byte(rom.first, file.bytes.len(), start);
         match add_dump(console.alloc(), &mut dumps, rom.first, &file) {
             Ok(()) => {}
-            Err(fault) => return Err(report_rom_fault(console, fault)),
+            Err(fault) => return Err(blame_rom_fault(console, fault)),
         }
     }
     Ok((dumps, has_start))
@@ -248,6 +248,8 @@ fn add_dump<'a>(
     ensures added { OnOk result (dumps.new ≡ dumps.old ++ chunks_of first file.now.bytes.items) }
     ensures covered { OnOk result ((address : ℕ) → is_covered dumps.new address
         ≡ (is_covered dumps.old address || is_among first (length file.now.bytes.items) address)) }
+    ensures whole { OnOk result (IsDump first file.now.bytes.items) }
+    ensures apart { OnOk result (ShareAnAddress dumps.old first (length file.now.bytes.items) → ⊥) }
     ensures fault { IfErr result (λ f. (f.path.now ≡ file.now.path.now) × IsRefusedWith dumps.old first file.now.bytes.items f.fault) }
 {
     match dumps.add(alloc, first, &file.bytes) {

@@ -2,7 +2,7 @@
 
 ghost use Rattle.std.specs.Prelude.{◌≡◌, ◌+◌, ◌<◌, ◌↔◌, ◌∷◌, [], if◌then◌else◌, IfErr, IfOk, IsErrOf, OnErr, codes};
 ghost use Rattle.rom80.specs.Rom.{bytes_over, sum_line};
-ghost use Rattle.plm80_console.specs.{Answer.Gives, Answer.GivesUp, Answer.writes, Journal.and_blamed, Journal.and_reported};
+ghost use Rattle.plm80_console.specs.{Answer.Gives, Answer.GivesUp, Answer.writes, Journal.Blames, Journal.and_blamed};
 ghost use Rattle.plm80_objects.specs.{Arguments.AreExtractArguments, Arguments.HasNoExtent, Arguments.IsExtentOf, Arguments.fill_text, Absolute.ExtractsFile};
 
 use crate::helpers::byte_words::explain_bytes;
@@ -144,15 +144,16 @@ pub fn extract_file<C: Console>(
     }
 }
 
-/// Reports why there are no bytes of the range that the options give.
+/// Reports why there are no bytes of the range that the options give: that it goes past FFFF, or that memory ran out.
 fn report_range<C: Console>(console: &mut C, fault: RomFault) -> Reported
-    ensures { C.journal console.new ≡ and_reported (C.journal console.old) }
+    ensures { Blames (fault ≡ RomFault.PastMemory) (C.journal console.old) (C.journal console.new) }
 {
-    let reported = console.report(fault);
     if let RomFault::PastMemory = fault {
+        let reported = console.blame(fault);
         console.explain("--first and --length go past FFFF: 10000 is all of memory from 0 on");
+        return reported;
     }
-    reported
+    console.report_memory()
 }
 
 /// The numbers that the options of `extract` write. Reports the first text that is no number.

@@ -37,7 +37,7 @@ pub record AreTraceArguments (matches : ArgMatches) (arguments : TraceArguments)
   pub limits : AreLimitTexts matches arguments.limits
   pub span : AreSpanTexts matches arguments.span
 
--- they are read in this order
+-- the paths of a run's files, in the order in which they are read
 abbrev pub run_paths : RunFiles → List (List ℕ)
 run_paths files = files.program.image.now ∷ files.program.regions.now ∷ files.inputs.now ∷ []
 
@@ -68,7 +68,7 @@ pub record AreBoardCoverArguments (matches : ArgMatches) (arguments : BoardCover
   pub files : AreBoardFiles matches arguments.files
   pub limits : AreLimitTexts matches arguments.limits
 
--- those of a run on a board
+-- the arguments of a run on a board
 pub record AreBoardRunArguments (matches : ArgMatches) (arguments : BoardRunArguments) : Type 0 where
   pub files : AreBoardFiles matches arguments.files
   pub limits : AreLimitTexts matches arguments.limits

@@ -2,22 +2,22 @@
 use Rattle.std.specs.Prelude.{◌≡◌, ℕ, Bool, List, [], ◌∷◌, ◌++◌, Option, None, Some, true, false, codes, length}
 use Rattle.std.specs.Fmt.{decimal}
 use Rattle.board80.specs.declared.line.Line.{Line}
-use Rattle.image80.specs.Image.{Located}
+use Rattle.decode80.specs.declared.fetching.Fetched.{Fetched}
+use Rattle.image80.specs.Image.{Located, memory_of}
 use Rattle.image80_text.specs.NameText.{labelled_text}
-use Rattle.loader80_board.specs.BoardCounts.{CountsSteps}
+use Rattle.loader80_board.specs.{BoardCounts.IsCounted, declared.counting.BoardCounts.BoardCounts}
 use Rattle.loader80_board.specs.BoardLines.{AreFirstLinesOf, AreLinesOf, IsTraced}
 use Rattle.loader80_board.specs.{BoardSays.IsRunTranscript, OnBoards.StandsOnBoard, declared.running.BoardOutcome.BoardOutcome}
-use Rattle.loader80_board.specs.BoardStates.{EndsSo}
 use Rattle.loader80_board.specs.BoardTranscript.{board_end_line}
 use Rattle.loader80_board.specs.declared.ended.BoardEnded.{BoardEnded}
-use Rattle.loader80_trace.specs.{Cover.CoversReached, declared.limits.Limits.Limits, declared.limits.Span.Span}
+use Rattle.loader80_trace.specs.{Cover.cover_lines, Cover.sums_line, declared.limits.Limits.Limits, declared.limits.Span.Span}
 use Rattle.machine80.specs.World.{World}
 use Rattle.machine80_board.specs.BoardRun.{BoardState, DevicesAreData, IsReached, board_start}
 use Rattle.omf_model.specs.declared.symbols.Public.{Public}
 use Rattle.plm80_boards.specs.Boards.{HaveNoBoard, IsBoardRead, WithBoard, board_paths}
 use Rattle.plm80_console.specs.Answer.{AnswerValue, prints}
 use Rattle.plm80_console.specs.Journal.{FileValue, Journal}
-use Rattle.plm80_names.specs.{Arguments.asks_names, Arguments.program_paths, Verdict.AnswersProgram, Verdict.AnswersVerdict}
+use Rattle.plm80_names.specs.{Arguments.asks_names, Arguments.program_paths, Verdict.AnswersProgram}
 use Rattle.plm80_names.specs.{Verdict.HaveNoProgram, Verdict.IsAccepted, Verdict.IsProgramRead, Verdict.IsRefusal}
 use Rattle.plm80_runs.specs.{Running.AreLimitsOf, Running.IsSpanOf, Running.named_ending, Status.board_end_status}
 use Rattle.plm80_runs.specs.declared.board_cover.BoardCoverArguments.{BoardCoverArguments}
@@ -26,13 +26,13 @@ use Rattle.plm80_runs.specs.declared.board_run.BoardRunArguments.{BoardRunArgume
 use Rattle.plm80_runs.specs.declared.board_trace.BoardTraceArguments.{BoardTraceArguments}
 use Rattle.plm80_runs.specs.declared.runnable.{Judged.Judged, Judged.TheVariants.Refused, Judged.TheVariants.Runs}
 use Rattle.plm80_runs.specs.declared.runnable.{Runnable.Runnable, Runnable.TheVariants.Accepted, Runnable.TheVariants.Followed}
-use Rattle.verify80.specs.Vouched.{Voucher}
-use Rattle.verify80_follow.specs.{declared.fit.Table.Table, Promise.KeepsFollowed, Promise.PromiseOf}
+use Rattle.verify80.specs.{Looking.code_of, Reached.AreReached, Vouched.Voucher}
+use Rattle.verify80_follow.specs.{declared.fit.Table.Table, Promise.KeepsFollowed, Promise.PromiseOf, Reaching.AreFollowed, Reaching.places_of}
 use Rattle.verify80_states.specs.QuietBoards.{is_quiet}
 
 -- ---- three files
 
--- they are read in this order
+-- the paths of a board and of a program, in the order in which they are read
 abbrev pub board_program_paths : BoardFiles → List (List ℕ)
 board_program_paths files = board_paths (Some files.board) ++ program_paths files.program
 
@@ -47,7 +47,7 @@ abbrev pub HaveNoBoardProgram : (asked : Bool) → List FileValue → Type 0
 HaveNoBoardProgram asked (board ∷ file ∷ files) = HaveNoProgram asked (file ∷ files)
 HaveNoBoardProgram asked files = HaveNoBoard files
 
--- such an answer to an image, if there is a board
+-- an answer to an image, if there is a board
 abbrev pub IfGiven : (Answers : List Line → Located → List Public → AnswerValue → Type 0) → Option (List Line) → Located → List Public →
     AnswerValue → Type 0
 IfGiven Answers None image publics answer = ⊥
@@ -64,14 +64,14 @@ AnswersBoard Answers files = WithBoard (Some files.board) (λ board. AnswersProg
 abbrev pub KeepsTable : Located → Table → Type 0
 KeepsTable image table = PromiseOf false image (is_quiet image.regions []) true table.ways.items table.listed table.bytes
 
--- the verifier refuses the image, and such a table follows its program
+-- the verifier refuses the image, and a table follows its program and keeps its promise
 pub record IsFollowed (image : Located) (publics : List Public) (same : Located) (table : Table) : Type 0 where
   pub image_is : same ≡ image
   pub line : List ℕ
   pub refused : IsRefusal image publics line
   pub promise : KeepsTable image table
 
--- the verifier accepts the image, or that
+-- why a program runs: the verifier accepts its image, or a table follows it
 abbrev pub HasGround : Located → List Public → Runnable → Type 0
 HasGround image publics (Accepted program) = IsAccepted image program
 HasGround image publics (Followed same table) = IsFollowed image publics same table
@@ -80,7 +80,7 @@ abbrev pub image_of : Runnable → Located
 image_of (Accepted program) = program.image
 image_of (Followed image table) = image
 
--- at most so many bytes of stack are needed
+-- how many bytes of stack a program needs at most
 abbrev pub stack_bytes_of : Runnable → ℕ
 stack_bytes_of (Accepted program) = program.stack_bytes
 stack_bytes_of (Followed image table) = table.bytes
@@ -99,12 +99,12 @@ pub record StandsFollowed (image : Located) (table : Table) (s : BoardState) : T
   pub same : world.machine ≡ s.machine
   pub keeps : KeepsFollowed image false table.bytes table.ways.items table.listed world
 
--- what is promised of a state
+-- what is promised of a state of a program's run
 abbrev pub KeepsPromise : Runnable → BoardState → Type 0
 KeepsPromise (Accepted program) s = StandsOnBoard program.image program.stack_bytes s
 KeepsPromise (Followed image table) s = StandsFollowed image table s
 
--- each state of each of its runs among devices in its data keeps that
+-- each state of each run of a program among devices in its data keeps what is promised
 abbrev pub RunsKeepPromise : Runnable → Type 0
 RunsKeepPromise program = (lines : List Line) → DevicesAreData lines (image_of program).regions → (most steps : ℕ) (s : BoardState) →
     IsReached lines (image_of program).regions most (board_start (image_of program)) steps s → KeepsPromise program s
@@ -114,10 +114,14 @@ pub record IsRunnable (image : Located) (publics : List Public) (program : Runna
   pub ground : HasGround image publics program
   pub promise : RunsKeepPromise program
 
--- A program that runs has such an answer; of another one the line of its refusal is printed alone, and the status is 1.
+-- An image whose program runs has an answer of the program; of another one the line of its refusal is printed alone, and the status is 1.
 pub data AnswersRunnable (Answers : Runnable → AnswerValue → Type 0) (image : Located) (publics : List Public) (answer : AnswerValue) : Type 0 where
   runs : (program : Runnable) → IsRunnable image publics program → Answers program answer → AnswersRunnable Answers image publics answer
   refused : (line : List ℕ) → IsRefusal image publics line → answer ≡ prints line 1 → AnswersRunnable Answers image publics answer
+
+-- an answer to a board, the names of a program and the program, as three files have them; or the image's refusal
+abbrev pub AnswersRunOnBoard : (Answers : List Line → List Public → Runnable → AnswerValue → Type 0) → BoardFiles → List FileValue → AnswerValue → Type 0
+AnswersRunOnBoard Answers = AnswersBoard (λ lines image publics. AnswersRunnable (Answers lines publics) image publics)
 
 -- what is known of an image that was judged
 abbrev pub IsJudged : Located → List Public → Judged → Type 0
@@ -135,13 +139,10 @@ pub record TranscribesRun (limits : Limits) (lines : List Line) (publics : List 
   pub transcript : IsRunTranscript lines (image_of program) limits.outputs limits.steps outcome text
   pub answer_is : answer ≡ prints (first_line program ++ named_ending (image_of program).regions.code publics text) (board_end_status outcome.end)
 
-abbrev pub TranscribesImage : Limits → List Line → Located → List Public → AnswerValue → Type 0
-TranscribesImage limits lines image publics = AnswersRunnable (TranscribesRun limits lines publics) image publics
-
 pub record RunsOnBoard (arguments : BoardRunArguments) (files : List FileValue) (answer : AnswerValue) : Type 0 where
   pub limits : Limits
   pub are_limits : AreLimitsOf arguments.limits limits
-  pub answers : AnswersBoard (TranscribesImage limits) arguments.files files answer
+  pub answers : AnswersRunOnBoard (TranscribesRun limits) arguments.files files answer
 
 -- ---- trace
 
@@ -176,49 +177,49 @@ pub record BeginsTrace (limits : Limits) (span : Span) (lines : List Line) (publ
   pub are_lines : AreFirstLinesOf lines (image_of program).regions (board_start (image_of program)) limits span publics true text
   pub is : begun ≡ first_line program ++ text
 
--- what a trace is that is given up: that, or such a text alone
+-- what a trace is that is given up: the whole, or a text of first lines alone
 pub data TracesOnBoardInPart (limits : Limits) (span : Span) (lines : List Line) (publics : List Public) (program : Runnable) (answer : AnswerValue) : Type 0 where
   whole : TracesOnBoard limits span lines publics program answer → TracesOnBoardInPart limits span lines publics program answer
   first : (text : List ℕ) → BeginsTrace limits span lines publics program text → answer ≡ prints text 0 →
       TracesOnBoardInPart limits span lines publics program answer
 
-abbrev pub TracesImage : Limits → Span → List Line → Located → List Public → AnswerValue → Type 0
-TracesImage limits span lines image publics = AnswersRunnable (TracesOnBoard limits span lines publics) image publics
-
-abbrev pub TracesImageInPart : Limits → Span → List Line → Located → List Public → AnswerValue → Type 0
-TracesImageInPart limits span lines image publics = AnswersRunnable (TracesOnBoardInPart limits span lines publics) image publics
-
-pub record TracesBoardBy (Traces : Limits → Span → List Line → Located → List Public → AnswerValue → Type 0) (arguments : BoardTraceArguments)
+pub record TracesBoardBy (Traces : Limits → Span → List Line → List Public → Runnable → AnswerValue → Type 0) (arguments : BoardTraceArguments)
     (files : List FileValue) (answer : AnswerValue) : Type 0 where
   pub limits : Limits
   pub are_limits : AreLimitsOf arguments.limits limits
   pub span : Span
   pub is_span : IsSpanOf arguments.span span
-  pub answers : AnswersBoard (Traces limits span) arguments.files files answer
+  pub answers : AnswersRunOnBoard (Traces limits span) arguments.files files answer
 
 abbrev pub TracesBoardFiles : BoardTraceArguments → List FileValue → AnswerValue → Type 0
-TracesBoardFiles = TracesBoardBy TracesImage
+TracesBoardFiles = TracesBoardBy TracesOnBoard
 
--- what is given up of it
+-- what is given up of a trace
 abbrev pub TracesBoardFilesInPart : BoardTraceArguments → List FileValue → AnswerValue → Type 0
-TracesBoardFilesInPart = TracesBoardBy TracesImageInPart
+TracesBoardFilesInPart = TracesBoardBy TracesOnBoardInPart
 
 -- ---- cover
 
--- the instructions to which an accepted program may come, with how often its run on the board began each; the status is the run's
-pub record CoversOnBoard (limits : Limits) (lines : List Line) (publics : List Public) (program : Voucher) (answer : AnswerValue) : Type 0 where
-  pub ended : BoardEnded
-  pub run : EndsSo lines program.image.regions (board_start program.image) limits ended
-  pub counts : List ℕ
-  pub counted : CountsSteps lines program.image.regions limits.outputs (board_start program.image) ended.steps counts
-  pub listed : List ℕ
-  pub covers : CoversReached program.image counts listed
-  pub answer_is : answer ≡ prints (labelled_text publics false listed) (board_end_status ended.end)
+-- by address the instructions to which a program may come: those that walks reach, or those at which the states of its table stand
+abbrev pub AreReachable : Runnable → List (Option Fetched) → Type 0
+AreReachable (Accepted program) reached = AreReached (code_of program.image) reached
+AreReachable (Followed image table) reached = AreFollowed image (places_of table []) reached
 
-abbrev pub CoversImage : Limits → List Line → Located → List Public → AnswerValue → Type 0
-CoversImage limits lines image publics = AnswersVerdict (CoversOnBoard limits lines publics) image publics
+-- a text is the lines of a program's code: of the instructions to which it may come, with their counts, and of data; and the sums
+pub record CoversProgram (program : Runnable) (counts text : List ℕ) : Type 0 where
+  pub reached : List (Option Fetched)
+  pub are_reachable : AreReachable program reached
+  pub lines : text ≡ cover_lines true counts (image_of program).regions (memory_of (image_of program).chunks) reached ++ sums_line counts reached
+
+-- The program's first line is printed, and behind it its code with the counts of its run on the board; the status is the run's.
+pub record CoversOnBoard (limits : Limits) (lines : List Line) (publics : List Public) (program : Runnable) (answer : AnswerValue) : Type 0 where
+  pub counts : BoardCounts
+  pub counted : IsCounted lines (image_of program) limits counts
+  pub listed : List ℕ
+  pub covers : CoversProgram program counts.steps.items listed
+  pub answer_is : answer ≡ prints (first_line program ++ labelled_text publics false listed) (board_end_status counts.ended.end)
 
 pub record CoversBoardFiles (arguments : BoardCoverArguments) (files : List FileValue) (answer : AnswerValue) : Type 0 where
   pub limits : Limits
   pub are_limits : AreLimitsOf arguments.limits limits
-  pub answers : AnswersBoard (CoversImage limits) arguments.files files answer
+  pub answers : AnswersRunOnBoard (CoversOnBoard limits) arguments.files files answer

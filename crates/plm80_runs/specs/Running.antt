@@ -58,7 +58,7 @@ trace_lines inputs limits span numbered publics program =
     run_lines program.image.regions (Some limits.outputs) (start_of program inputs) publics numbered span.from
     (count_within limits.steps span.from span.count)
 
--- these lines reached the end of the run, which is this, or ran out first
+-- the lines of a span reached the end of the run, which is this, or ran out first
 abbrev pub IsTraceOf : List (ℕ × ℕ) → Limits → Span → Voucher → Option Ended → Type 0
 IsTraceOf inputs limits span program ended =
     IsTraced program.image.regions (Some limits.outputs) (start_of program inputs) limits.steps span.from span.count ended
@@ -141,7 +141,7 @@ pub record AnswersRun (Answers : List (ℕ × ℕ) → List Public → Voucher �
 
 -- ---- a session
 
--- its texts, as files that were read
+-- the texts of a session, as files that were read
 abbrev pub texts_of : RunTexts → Texts
 texts_of texts = record {
   image = texts.program.image.bytes.items;
@@ -154,7 +154,7 @@ run_files paths texts = record { path = paths.program.image.now; bytes = texts.p
     ∷ record { path = paths.program.regions.now; bytes = texts.program.regions.bytes.items }
     ∷ record { path = paths.inputs.now; bytes = texts.inputs.bytes.items } ∷ []
 
--- its exit status: that of the run's end, or 1 of a refusal; every other fault has none
+-- the exit status of a session: that of the run's end, or 1 of a refusal; every other fault has none
 abbrev pub session_status : Result Outcome SessionFault → Result ℕ SessionFault
 session_status (Ok outcome) = Ok (end_status outcome.end)
 session_status (Err (Refused refusal)) = Ok 1

@@ -1,23 +1,24 @@
 //! `plm80 cover --board`: the code of a located program, with how often a run among the devices of a board began each instruction.
 
-ghost use Rattle.std.specs.Prelude.{◌≡◌, None, IfErr, IfNone, IfOk, IfSome, codes};
+ghost use Rattle.std.specs.Prelude.{◌≡◌, None, IfErr, IfNone, IfOk, IfSome, codes, length};
 ghost use Rattle.clap.specs.Matches.{first_value, found_of};
 ghost use Rattle.plm80_console.specs.Answer.{Gives, GivesUp};
 ghost use Rattle.plm80_runs.specs.Arguments.{AreBoardCoverArguments};
-ghost use Rattle.plm80_runs.specs.OnBoards.{CoversImage, CoversBoardFiles, CoversOnBoard, board_program_paths};
+ghost use Rattle.plm80_runs.specs.OnBoards.{CoversBoardFiles, CoversOnBoard, CoversProgram, board_program_paths};
 
-use crate::board_files::{BoardFiles, BoardProgram};
+use crate::board_files::BoardFiles;
 use crate::on_board::{BoardCommand, Ran, print_on_board, print_ran};
 use crate::run_arguments::LimitTexts;
+use crate::runnable::Runnable;
 use crate::status::{BoardEndWords, board_status_of};
 use board80::Board;
 use clap::ArgMatches;
-use loader80::Vouched;
 use loader80_board::{BoardRunFault, count_board_steps};
-use loader80_trace::{Limits, cover};
+use loader80_trace::{Limits, cover, cover_instructions};
 use plm80_console::{Answer, Console, Reported};
-use plm80_names::{Names, Verdict, judge};
-use std::alloc::Global;
+use plm80_names::Names;
+use std::alloc::{AllocError, Global};
+use verify80_follow::{followed_instructions, places_of};
 
 /// The arguments of the command `cover` with a board in place of inputs.
 #[derive(Clone, Copy)]
@@ -40,8 +41,8 @@ impl<'a> BoardCoverArguments<'a> {
     }
 }
 
-/// Does `cover --board`: runs the image among the devices of the board and prints its code with the counts of the run, or its refusal, and
-/// returns the exit status: that of the run, 1 for a refusal.
+/// Does `cover --board`: runs the image among the devices of the board if the verifier accepts it or a table follows it, prints its code
+/// with the counts of the run, or the refusal of the image, and returns the exit status: that of the run, 1 for a refusal.
 pub fn cover_among_devices<C: Console>(
     console: &mut C,
     arguments: BoardCoverArguments<'_>,
@@ -64,55 +65,64 @@ struct Cover {
 }
 
 impl BoardCommand for Cover {
-    ghost answers = { λ self. CoversImage self.limits };
+    ghost answers = { λ self. CoversOnBoard self.limits };
 
-    ghost begins = { λ self. CoversImage self.limits };
+    ghost begins = { λ self. CoversOnBoard self.limits };
 
     fn print<C: Console>(
         self,
         console: &mut C,
-        program: BoardProgram,
+        program: &Runnable,
+        names: &Names,
+        board: &Board,
         path: &str,
     ) -> Result<u8, Reported> {
-        let ran = cover_judged(console.alloc(), program, self.limits);
+        let ran = cover_run(console.alloc(), program, names, board, self.limits);
         print_ran(console, ran, path)
     }
 }
 
-/// What `cover --board` answers: the program's code with the counts of its run; the line of its refusal if the verifier refuses it.
-fn cover_judged(alloc: Global, program: BoardProgram, limits: Limits) -> Result<Ran, BoardRunFault>
-    ensures { IfOk result (λ ran. CoversImage limits program.board program.image program.names ran.answer) }
-{
-    let BoardProgram {
-        board,
-        image,
-        names,
-    } = program;
-    match judge(alloc, image, &names)? {
-        Verdict::Accepted(vouched) => cover_run(alloc, &vouched, &names, &board, limits),
-        Verdict::Refused(line) => Ok(Ran {
-            answer: Answer::prints(line, 1),
-            end: None,
-        }),
-    }
-}
-
-/// The code of a program, with how often its run on a board begins each instruction, and how the run ends.
+/// The code of a program, with how often its run on a board begins each instruction, behind the program's first line; and how the run ends.
 fn cover_run(
     alloc: Global,
-    vouched: &Vouched,
+    program: &Runnable,
     names: &Names,
     board: &Board,
     limits: Limits,
 ) -> Result<Ran, BoardRunFault>
-    ensures { IfOk result (λ ran. CoversOnBoard limits board.now names.now vouched.now ran.answer) }
+    ensures { IfOk result (λ ran. CoversOnBoard limits board.now names.now program.now ran.answer) }
 {
-    let counts = count_board_steps(alloc, vouched.image(), board, limits)?;
-    let text = cover(alloc, vouched, &counts.steps)?;
-    let text = names.label(alloc, false, text)?;
+    let counts = count_board_steps(alloc, program.image(), board, limits)?;
+    let code = code_with_counts(alloc, program, &counts.steps)?;
+    let labelled = names.label(alloc, false, code)?;
+    let mut lines = program.first_line(alloc)?;
+    lines.extend_from_slice(&labelled)?;
     let ended = counts.ended;
     Ok(Ran {
-        answer: Answer::prints(text, board_status_of(ended.end)),
+        answer: Answer::prints(lines, board_status_of(ended.end)),
         end: BoardEndWords::of(ended.end, ended.at),
     })
+}
+
+/// The lines of a program's code, with the count of each instruction to which the program may come. `counts` must have 65536 entries, one
+/// for each address.
+///
+/// # Errors
+/// `AllocError` only if memory runs out.
+fn code_with_counts(
+    alloc: Global,
+    program: &Runnable,
+    counts: &[u64],
+) -> Result<Vec<u8>, AllocError>
+    requires { length counts.now ≡ 65536 }
+    ensures { IfOk result (λ text. CoversProgram program.now counts.now text.items) }
+{
+    match program {
+        Runnable::Accepted(vouched) => cover(alloc, vouched, counts),
+        Runnable::Followed(image, table) => {
+            let places = places_of(alloc, table, &[])?;
+            let reached = followed_instructions(alloc, image, &places)?;
+            cover_instructions(alloc, image, &reached, counts)
+        }
+    }
 }

@@ -4,13 +4,13 @@ ghost use Rattle.std.specs.Prelude.{◌≡◌, None, IfErr, IfNone, IfOk, IfSome
 ghost use Rattle.clap.specs.Matches.{first_value, found_of};
 ghost use Rattle.plm80_console.specs.Answer.{Gives, GivesUp};
 ghost use Rattle.plm80_runs.specs.Arguments.{AreBoardRunArguments};
-ghost use Rattle.plm80_runs.specs.OnBoards.{RunsOnBoard, TranscribesImage, TranscribesRun, board_program_paths};
+ghost use Rattle.plm80_runs.specs.OnBoards.{RunsOnBoard, TranscribesRun, board_program_paths};
 
-use crate::board_files::{BoardFiles, BoardProgram};
+use crate::board_files::BoardFiles;
 use crate::endings::name_ending;
 use crate::on_board::{BoardCommand, Ran, print_on_board, print_ran};
 use crate::run_arguments::LimitTexts;
-use crate::runnable::{Judged, Runnable, judge_run};
+use crate::runnable::Runnable;
 use crate::status::{BoardEndWords, board_status_of};
 use board80::Board;
 use clap::ArgMatches;
@@ -65,40 +65,20 @@ struct Transcript {
 }
 
 impl BoardCommand for Transcript {
-    ghost answers = { λ self. TranscribesImage self.limits };
+    ghost answers = { λ self. TranscribesRun self.limits };
 
-    ghost begins = { λ self. TranscribesImage self.limits };
+    ghost begins = { λ self. TranscribesRun self.limits };
 
     fn print<C: Console>(
         self,
         console: &mut C,
-        program: BoardProgram,
+        program: &Runnable,
+        names: &Names,
+        board: &Board,
         path: &str,
     ) -> Result<u8, Reported> {
-        let ran = transcribe_judged(console.alloc(), program, self.limits);
+        let ran = transcribe(console.alloc(), program, names, board, self.limits);
         print_ran(console, ran, path)
-    }
-}
-
-/// What `run --board` answers: the transcript of the program's run, or the line of the image's refusal.
-fn transcribe_judged(
-    alloc: Global,
-    program: BoardProgram,
-    limits: Limits,
-) -> Result<Ran, BoardRunFault>
-    ensures { IfOk result (λ ran. TranscribesImage limits program.board program.image program.names ran.answer) }
-{
-    let BoardProgram {
-        board,
-        image,
-        names,
-    } = program;
-    match judge_run(alloc, image, &names)? {
-        Judged::Runs(program) => transcribe(alloc, &program, &names, &board, limits),
-        Judged::Refused(line) => Ok(Ran {
-            answer: Answer::prints(line, 1),
-            end: None,
-        }),
     }
 }
 

@@ -4,26 +4,26 @@ ghost use Rattle.std.specs.Prelude.{◌≡◌, ◌<◌, ◌++◌, ℕ, List, Non
 ghost use Rattle.std.specs.Io.KnownBytes.{Appends};
 ghost use Rattle.clap.specs.Matches.{first_value, found_of};
 ghost use Rattle.loader80_trace.specs.Traces.{AppendsFront};
-ghost use Rattle.plm80_console.specs.{Answer.Gives, Answer.GivesUp, Answer.IsAnswered, Answer.IsGiven, Answer.IsGivenUp, Journal.and_reported};
+ghost use Rattle.plm80_console.specs.{Answer.Gives, Answer.GivesUp, Answer.IsGiven, Answer.IsGivenUp, Journal.and_reported};
 ghost use Rattle.plm80_names.specs.Fronts.{LeavesFront};
 ghost use Rattle.plm80_runs.specs.Arguments.{AreBoardTraceArguments};
-ghost use Rattle.plm80_runs.specs.OnBoards.{BeginsTrace, TracesImage, TracesBoardFiles, TracesBoardFilesInPart, TracesImageInPart, TracesLines};
+ghost use Rattle.plm80_runs.specs.OnBoards.{BeginsTrace, TracesBoardFiles, TracesBoardFilesInPart, TracesLines};
 ghost use Rattle.plm80_runs.specs.OnBoards.{TracesOnBoard, TracesOnBoardInPart, board_program_paths, board_trace_ending, first_line, image_of};
 
-use crate::board_files::{BoardFiles, BoardProgram};
+use crate::board_files::BoardFiles;
 use crate::endings::board_trace_ending_of;
 use crate::on_board::{BoardCommand, print_on_board, report_run};
 use crate::run_arguments::{LimitTexts, SpanTexts};
-use crate::runnable::{Judged, Runnable, judge_run};
+use crate::runnable::Runnable;
 use crate::status::BoardEndWords;
 use board80::Board;
 use clap::ArgMatches;
 use loader80_board::{BoardEnded, BoardRunFault, write_board_lines};
 use loader80_trace::{Limits, LineForm, Span, TraceFault};
 use machine80_board::misplaced_device;
-use plm80_console::{Answer, Console, Reported};
+use plm80_console::{Console, Reported};
 use plm80_names::Names;
-use std::alloc::{AllocError, Global};
+use std::alloc::Global;
 use std::io::ErrorKind;
 use stream80::{Sink, write_all};
 
@@ -76,50 +76,25 @@ struct Trace {
 }
 
 impl BoardCommand for Trace {
-    ghost answers = { λ self. TracesImage self.limits self.span };
+    ghost answers = { λ self. TracesOnBoard self.limits self.span };
 
-    ghost begins = { λ self. TracesImageInPart self.limits self.span };
+    ghost begins = { λ self. TracesOnBoardInPart self.limits self.span };
 
     fn print<C: Console>(
         self,
         console: &mut C,
-        program: BoardProgram,
+        program: &Runnable,
+        names: &Names,
+        board: &Board,
         path: &str,
     ) -> Result<u8, Reported> {
-        let BoardProgram {
-            board,
-            image,
-            names,
-        } = program;
-        match judge_run(console.alloc(), image, &names) {
-            Ok(Judged::Runs(program)) => print_trace(console, &program, &names, &board, path, self),
-            Ok(Judged::Refused(line)) => console.give(Answer::prints(line, 1)),
-            Err(AllocError) => Err(console.report_memory()),
+        let mut output = console.output();
+        let written = write_trace(console.alloc(), program, names, board, self, &mut output);
+        let failure = console.take_back(output);
+        match written {
+            Ok(ended) => end_trace(console, program, &ended, names),
+            Err(fault) => Err(report_lines(console, path, fault, failure)),
         }
-    }
-}
-
-/// Prints the instructions of a program's run on a board, whose text has this path, behind the program's first line, and how the run ended
-/// if they reach that, and returns the exit status.
-fn print_trace<C: Console>(
-    console: &mut C,
-    program: &Runnable,
-    names: &Names,
-    board: &Board,
-    path: &str,
-    trace: Trace,
-) -> Result<u8, Reported>
-    ensures done { IfOk result (IsAnswered (TracesOnBoard trace.limits trace.span board.now names.now program.now)
-        (C.journal console.old) (C.journal console.new)) }
-    ensures fault { IfErr result (λ _. IsGivenUp (TracesOnBoardInPart trace.limits trace.span board.now names.now program.now)
-        (C.journal console.old) (C.journal console.new)) }
-{
-    let mut output = console.output();
-    let written = write_trace(console.alloc(), program, names, board, trace, &mut output);
-    let failure = console.take_back(output);
-    match written {
-        Ok(ended) => end_trace(console, program, &ended, names),
-        Err(fault) => Err(report_lines(console, path, fault, failure)),
     }
 }
 

@@ -7,9 +7,9 @@
 //! | [`run_files`] | `run`: the transcript of a run, its last instructions, the memory that it leaves |
 //! | [`run_among_devices`] | `run --board`: the transcript of a run among the devices of a board |
 //! | [`trace_files`] | `trace`: the instructions of a run, a line each |
-//! | [`trace_among_devices`] | `trace --board`: the same of a run among the devices of a board |
+//! | [`trace_among_devices`] | `trace --board`: the instructions of a run among the devices of a board |
 //! | [`cover_files`] | `cover`: the code, with how often a run began each instruction |
-//! | [`cover_among_devices`] | `cover --board`: the same of a run among the devices of a board |
+//! | [`cover_among_devices`] | `cover --board`: the code, with how often a run among the devices of a board began each instruction |
 //! | [`write_inputs_file`] | `inputs`: the text of a run's inputs, from words |
 //! | [`status_of`], [`EndWords`] | the exit status of a run; words on how it ended |
 #![tactic(auto)]

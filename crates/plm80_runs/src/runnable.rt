@@ -17,18 +17,18 @@ use verify80_follow_search::{Budget, SearchResult, search};
 /// A program that runs.
 #[derive(Drop)]
 pub enum Runnable {
-    /// The verifier accepts its image.
+    /// The verifier accepts the image.
     Accepted(Vouched),
-    /// The verifier refuses its image, and this table follows it.
+    /// The verifier refuses the image, and this table follows its program.
     Followed(Image, Table),
 }
 
 /// What is known of an image that was judged.
 #[derive(Drop)]
 pub enum Judged {
-    /// Its program runs.
+    /// The program of the image runs.
     Runs(Runnable),
-    /// The line of its refusal, with the name of the address.
+    /// The line of the image's refusal, with the name of its address.
     Refused(Vec<u8>),
 }
 

@@ -223,12 +223,36 @@ impl<'a, 'b> Conditioning<'a, 'b> {
     ) -> Result<IndexSet<u16>, Unexplained> {
         let mut refused = IndexSet::new(alloc);
         for number in 0..self.begins.len() {
-            let conditions = self.all_from(alloc, number)?;
-            let search = self.search(alloc, &conditions)?;
-            self.append_candidates(alloc, &conditions, &search, candidates)?;
-            self.gather(alloc, &conditions, &search, &mut refused)?;
+            self.look_from(alloc, number, candidates, &mut refused)?;
         }
         Ok(refused)
+    }
+
+    /// Searches from the address with this number, adds the conditions of instructions, appends the refusals that are new to `candidates`,
+    /// and adds the entries of procedures that are refused and don't return to `refused`.
+    fn look_from(
+        &mut self,
+        alloc: Global,
+        number: usize,
+        candidates: &mut Vec<Candidate>,
+        refused: &mut IndexSet<u16>,
+    ) -> Result<(), Unexplained> {
+        let conditions = self.all_from(alloc, number)?;
+        let search = self.search(alloc, &conditions)?;
+        self.look_by(alloc, &conditions, &search, candidates, refused)
+    }
+
+    /// Adds the conditions of instructions, the refusals and the entries that a search on these conditions has found.
+    fn look_by(
+        &mut self,
+        alloc: Global,
+        conditions: &Conditions,
+        search: &Search,
+        candidates: &mut Vec<Candidate>,
+        refused: &mut IndexSet<u16>,
+    ) -> Result<(), Unexplained> {
+        self.append_candidates(alloc, conditions, search, candidates)?;
+        self.gather(alloc, conditions, search, refused)
     }
 
     /// All conditions that are known, for a program that begins at the address with this number.

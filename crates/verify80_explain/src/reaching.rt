@@ -20,7 +20,7 @@ use indexmap::IndexSet;
 use std::alloc::{AllocError, Global};
 use verify80::ImageCode;
 use verify80_flow::Refusal;
-use verify80_walks::{Point, Unexplained, are_reached};
+use verify80_walks::{Point, Search, Unexplained, are_reached};
 
 /// Where a walk stands, and whether it may go on.
 #[derive(Clone, Copy, Debug)]
@@ -192,6 +192,19 @@ fn search_for<C: Code>(
     ensures { IfOk result (λ found. IfSome found (λ points. All (IsReachedAt (code_of plain.now) (C.code program.now)) points.items)) }
 {
     let search = conditioning.search_program(alloc, program)?;
+    stand_by(alloc, plain, program, &search, seen)
+}
+
+/// Where walks of a program stand by a search, but for what has been seen; `None` if its points don't come from one another.
+fn stand_by<C: Code>(
+    alloc: Global,
+    plain: &ImageCode,
+    program: &C,
+    search: &Search,
+    seen: &mut IndexSet<Key>,
+) -> Result<Option<Vec<ReachedPoint>>, Unexplained>
+    ensures { IfOk result (λ found. IfSome found (λ points. All (IsReachedAt (code_of plain.now) (C.code program.now)) points.items)) }
+{
     let points = search.points.as_slice();
     if !are_reached(alloc, program, points, search.origins.as_slice())? {
         return Ok(None);

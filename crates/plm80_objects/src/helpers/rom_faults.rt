@@ -1,27 +1,13 @@
 //! Faults of dumps, each with the path of its file.
 
 ghost use Rattle.std.specs.Prelude.{◌≡◌, ◌≢◌, ◌↔◌, None};
-ghost use Rattle.plm80_console.specs.Journal.{Blames, and_reported};
+ghost use Rattle.plm80_console.specs.Journal.{Blames};
 
 use plm80_console::{Console, FaultOf, Reported};
 use rom80::RomFault;
 
 /// Reports the fault of a dump with the path of its file, and what to do, if words are asked for. Out of memory is reported without a path.
-pub(crate) fn report_rom_fault<C: Console>(
-    console: &mut C,
-    fault: FaultOf<'_, RomFault>,
-) -> Reported
-    ensures { C.journal console.new ≡ and_reported (C.journal console.old) }
-{
-    if let RomFault::Memory = fault.fault {
-        return console.report_memory();
-    }
-    let reported = console.report_file(fault.path, fault.fault);
-    console.explain_any(words_for(fault.fault));
-    reported
-}
-
-/// The same of a dump that is blamed: the caller's contract says that the fault is there.
+/// The caller's contract says that any other fault is there.
 pub(crate) fn blame_rom_fault<C: Console>(console: &mut C, fault: FaultOf<'_, RomFault>) -> Reported
     ensures { Blames (fault.entry.fault ≢ RomFault.Memory) (C.journal console.old) (C.journal console.new) }
 {

@@ -22,6 +22,11 @@ returns c =
     let image : Located = c.args.image.now in
     let regions : c.image.inside.regions ≡ image.regions = ap (λ (v : Located). v.regions) c.image.view_is in
     let now : IsNow c.in_ok-lines.lines (board_start image) c.in_ok-running.running = c.in_ok-running.ensures.starts c.in_ok-lines.lines in
-    subst (λ (l : List Line). EndsSo l image.regions (board_start image) c.args.limits c.in_ok-ended.ended × CountsSteps l image.regions c.args.limits.outputs (board_start image) c.in_ok-ended.ended.steps c.count_each.new.counts.items) c.in_ok-lines.ensures
+    let both = subst (λ (l : List Line). EndsSo l image.regions (board_start image) c.args.limits c.in_ok-ended.ended × CountsSteps l image.regions c.args.limits.outputs (board_start image) c.in_ok-ended.ended.steps c.count_each.new.counts.items) c.in_ok-lines.ensures
     (subst (λ (r : Areas). EndsSo c.in_ok-lines.lines r (board_start image) c.args.limits c.in_ok-ended.ended × CountsSteps c.in_ok-lines.lines r c.args.limits.outputs (board_start image) c.in_ok-ended.ended.steps c.count_each.new.counts.items) regions
-    (c.in_ok-ended.ensures.counted (board_start image) now))
+    (c.in_ok-ended.ensures.counted (board_start image) now)) in
+    record {
+      devices = subst (λ (r : Areas). DevicesAreData c.args.board.now r) regions c.in_default.ensures.none;
+      ended = both.0;
+      counted = both.1;
+    }

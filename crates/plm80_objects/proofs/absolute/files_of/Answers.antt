@@ -1,7 +1,8 @@
 use Rattle.plm80_objects.proofs.Names.{◌≡◌, ℕ, ◌+◌, ◌<◌, List, [], ◌∷◌, ◌++◌, length, take, Bor, all_zipped_more, ◌∙◌, sym, subst, get_or, take_more}
 use Rattle.plm80_objects.proofs.Names.{AreRomFiles, IsRomFile, RomFile}
-use Rattle.plm80_objects.proofs.Names.{ap, and_reported}
-use Rattle.plm80_console.specs.{AnswerLaws.err_from, Journal.Blames.other, Journal.Blames.wrong, NumberText.IsWordText}
+use Rattle.plm80_objects.proofs.Names.{ap, and_reported, arith, suc, zero}
+use Rattle.std.specs.List.{AllZip}
+use Rattle.plm80_console.specs.{AnswerLaws.err_from, Journal.Blames.other, Journal.Blames.wrong, Journal.and_blamed, NumberText.IsWordText}
 use Rattle.plm80_objects.proofs.absolute.files_of.Goals as goal
 
 -- one more file behind the first
@@ -47,9 +48,30 @@ pub returns-in_err-add_file-clause-fault : goal.returns-in_err-add_file-clause-f
 returns-in_err-add_file-clause-fault g c =
     err_from c.from_residual-in_err-add_file.result (other (c.in_err-add_file.ensures.fault ∙ ap and_reported c.in_ok-word.ensures.unchanged))
 
+zipped_at : {A B : Type 0} (R : A → B → Type 0) (xs : List A) (ys : List B) (i : ℕ) (d : A) (e : B) → AllZip R xs ys → i < length xs
+    → R (get_or xs i d) (get_or ys i e)
+zipped_at R [] ys i d e all below = absurd (omega (arith, below))
+zipped_at R (x ∷ xs) [] i d e all below = absurd all
+zipped_at R (x ∷ xs) (y ∷ ys) zero d e all below = all.0
+zipped_at R (x ∷ xs) (y ∷ ys) (suc i) d e all below = zipped_at R xs ys i d e all.1 (omega (arith, below))
+
+-- a further text names none
+no_further : (path first : List ℕ) (xs ys : List (Bor (List ℕ))) (i : ℕ) (d : Bor (List ℕ)) → ys ≡ xs → i < length ys
+    → ((file : RomFile) → IsRomFile (get_or ys i d).now file → ⊥) → (roms : List RomFile) → AreRomFiles path first xs roms → ⊥
+no_further path first xs ys i d same below lacks [] are = are
+no_further path first xs ys i d same below lacks (rom ∷ roms) are =
+    lacks (get_or roms i rom)
+    (zipped_at (λ (text : Bor (List ℕ)) (file : RomFile). IsRomFile text.now file) ys roms i d rom
+    (subst (λ (texts : List (Bor (List ℕ))). AllZip (λ (text : Bor (List ℕ)) (file : RomFile). IsRomFile text.now file) texts roms) (sym same) are.2) below)
+
 pub returns-in_err-file-clause-fault : goal.returns-in_err-file-clause-fault
 returns-in_err-file-clause-fault g c =
-    err_from c.from_residual-in_err-file.result (other (c.in_err-file.ensures.fault ∙ ap and_reported c.loop-further.invariant.unchanged))
+    let asked = c.args.arguments.now in
+    err_from c.from_residual-in_err-file.result
+    (wrong
+    (no_further asked.bytes.now asked.first.text.now asked.further.items c.deref-further-items.result.now c.loop-further.further-index _
+    c.deref-further-items.ensures.value c.loop-further-test.true c.in_err-file.ensures.wrong)
+    (c.in_err-file.ensures.failed ∙ ap and_blamed c.loop-further.invariant.unchanged))
 
 pub returns-in_err-add_file-2-clause-fault : goal.returns-in_err-add_file-2-clause-fault
 returns-in_err-add_file-2-clause-fault g c =

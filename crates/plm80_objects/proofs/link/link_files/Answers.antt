@@ -1,9 +1,11 @@
 use Rattle.plm80_console.specs.{AnswerLaws.err_from, AnswerLaws.gives_or_gives_up, AnswerLaws.gives_up_unanswered, AnswerLaws.only_blames_same}
-use Rattle.plm80_console.specs.{AnswerLaws.wrong_files, Journal.OnlyBlames}
+use Rattle.plm80_console.specs.{AnswerLaws.wrong_files, AnswerLaws.wrong_so_far, Journal.OnlyBlames}
+use Rattle.std.proofs.Common.{sym}
+use Rattle.std.proofs.lemmas.Bool.{false≢true}
 use Rattle.plm80_files.specs.Wrong.{SpellsNeither}
 use Rattle.plm80_objects.specs.Wrong.{OfOne}
 use Rattle.plm80_objects.proofs.FaultLemmas.{all_of_them, links_none, no_link_files}
-use Rattle.plm80_objects.proofs.Names.{Bor, ℕ, List, ◌++◌, ◌∙◌, ap, subst, Journal, and_read_files, AreLinkFilesRead, LinksFiles, LinksInto}
+use Rattle.plm80_objects.proofs.Names.{Bor, ℕ, List, [], ◌++◌, ◌∙◌, ap, refl, subst, Journal, and_read_files, AreLinkFilesRead, LinksFiles, LinksInto}
 use Rattle.plm80_objects.proofs.ReadLemmas.{one_before, texts}
 use Rattle.plm80_objects.proofs.link.link_files.Goals as goal
 
@@ -19,6 +21,7 @@ returns-in-Ok g c =
     (c.in-Ok.ensures.unchanged ∙ read.journal ∙ ap (λ (j : Journal). and_read_files j read.files) c.in_ok-name.ensures.unchanged)
     c.in-Ok.answer c.give-given.result
     (record {
+      named = c.in_ok-name.ensures.taken;
       files = files;
       are = read.have;
       links = subst (λ (n : List ℕ). LinksInto asked.out.now asked.lines n files c.in-Ok.answer) c.in_ok-name.ensures.name c.in-Ok.ensures.links;
@@ -48,3 +51,11 @@ returns-in_err-files-clause-fault g c =
     (only_blames_same c.in_ok-name.ensures.unchanged
     (subst (λ (ps : List (Bor (List ℕ))). OnlyBlames (OfOne SpellsNeither) (texts ps) (g.C.Console.journal c.module_name.new.console) new)
     c.deref.ensures.value c.in_err-files.ensures.fault)))
+
+pub returns-in_err-name-clause-fault : goal.returns-in_err-name-clause-fault
+returns-in_err-name-clause-fault g c =
+    let paths = texts c.args.arguments.now.files.items in
+    err_from c.from_residual.result
+    (wrong_so_far (LinksFiles c.args.arguments.now) paths (g.C.Console.journal c.args.console.now) (g.C.Console.journal c.args.console.now)
+    (g.C.Console.journal c.module_name.new.console) [] paths refl refl (λ none others answer named is. false≢true (sym none ∙ is.named))
+    c.in_err-name.ensures.failed)

@@ -1,11 +1,11 @@
 use Rattle.place80.specs.declared.options.Options.{Options}
-use Rattle.plm80_console.specs.AnswerLaws.{err_from, gives_or_gives_up, gives_up_unanswered, only_blames_same, wrong_arguments, wrong_files}
-use Rattle.plm80_objects.proofs.FaultLemmas.{no_program, of_its_program, one_list_of_ranges, one_numbers}
+use Rattle.plm80_console.specs.AnswerLaws.{err_from, gives_or_gives_up, gives_up_unanswered, only_blames_same, wrong_arguments, wrong_files, wrong_so_far}
+use Rattle.plm80_objects.proofs.FaultLemmas.{no_program, of_its_program, one_numbers}
 use Rattle.plm80_objects.proofs.Names.{Bor, ℕ, List, [], ◌∷◌, refl, ◌∙◌, ap, subst, sym, Range, Journal, and_read, file_value}
 use Rattle.plm80_objects.proofs.Names.{LocatesFile, WritesLocated}
 use Rattle.plm80_objects.proofs.ReadLemmas.{of_program, texts}
 use Rattle.board80.specs.declared.line.Kind.TheVariants.{Ram, Rom}
-use Rattle.plm80_boards.specs.Boards.{AreRangesIn}
+use Rattle.plm80_boards.specs.{Boards.AreRangesIn, RangeLaws.one_list_in}
 use Rattle.plm80_objects.proofs.locate.locate_on_board.Goals as goal
 
 pub returns : goal.returns
@@ -54,9 +54,9 @@ returns-in_err-answer-clause-fault g c =
     (c.in_ok-ram.ensures.unchanged ∙ c.in_ok-rom.ensures.unchanged ∙ c.in_ok-options.ensures.unchanged))
     (λ lacks others answer named is.
     let options = one_numbers asked.options is.options c.in_ok-options.options is.are_options c.in_ok-options.ensures.numbers in
-    let rom = one_list_of_ranges Rom board (texts asked.rom.items) is.rom c.in_ok-rom.rom.items is.is_rom
+    let rom = one_list_in Rom board (texts asked.rom.items) is.rom c.in_ok-rom.rom.items is.is_rom
     (subst (λ (l : List (Bor (List ℕ))). AreRangesIn Rom board (texts l) c.in_ok-rom.rom.items) c.deref.ensures.value c.in_ok-rom.ensures.ranges) in
-    let ram = one_list_of_ranges Ram board (texts asked.ram.items) is.ram c.in_ok-ram.ram.items is.is_ram
+    let ram = one_list_in Ram board (texts asked.ram.items) is.ram c.in_ok-ram.ram.items is.is_ram
     (subst (λ (l : List (Bor (List ℕ))). AreRangesIn Ram board (texts l) c.in_ok-ram.ram.items) c.deref-2.ensures.value c.in_ok-ram.ensures.ranges) in
     let writes = of_its_program c.one_file_reading.ensures.file (WritesLocated asked is.options is.rom is.ram) file others c.in_ok-modules.modules.items program answer
     read.2 c.in_ok-modules.ensures.one c.index-program.ensures is.answers in
@@ -78,3 +78,27 @@ pub returns-in_err-options-clause-fault : goal.returns-in_err-options-clause-fau
 returns-in_err-options-clause-fault g c =
     err_from c.from_residual.result
     (wrong_arguments (LocatesFile c.args.arguments.now c.args.given_board.now.board) (λ files answer is. c.in_err-options.ensures.wrong is.options is.are_options) c.in_err-options.ensures.failed)
+
+pub returns-in_err-rom-clause-fault : goal.returns-in_err-rom-clause-fault
+returns-in_err-rom-clause-fault g c =
+    let asked = c.args.arguments.now in
+    let board = c.args.given_board.now.board in
+    let paths = asked.object.now ∷ [] in
+    err_from c.from_residual-in_err-rom.result
+    (wrong_so_far (LocatesFile asked board) paths (g.C.Console.journal c.args.console.now) (g.C.Console.journal c.numbers.new.console)
+    (g.C.Console.journal c.rom.new.console) [] paths refl c.in_ok-options.ensures.unchanged
+    (λ lacks others answer named is.
+    lacks is.rom (subst (λ (l : List (Bor (List ℕ))). AreRangesIn Rom board (texts l) is.rom) (sym c.deref.ensures.value) is.is_rom))
+    c.in_err-rom.ensures.fault)
+
+pub returns-in_err-ram-clause-fault : goal.returns-in_err-ram-clause-fault
+returns-in_err-ram-clause-fault g c =
+    let asked = c.args.arguments.now in
+    let board = c.args.given_board.now.board in
+    let paths = asked.object.now ∷ [] in
+    err_from c.from_residual-in_err-ram.result
+    (wrong_so_far (LocatesFile asked board) paths (g.C.Console.journal c.args.console.now) (g.C.Console.journal c.rom.new.console)
+    (g.C.Console.journal c.ram.new.console) [] paths refl (c.in_ok-rom.ensures.unchanged ∙ c.in_ok-options.ensures.unchanged)
+    (λ lacks others answer named is.
+    lacks is.ram (subst (λ (l : List (Bor (List ℕ))). AreRangesIn Ram board (texts l) is.ram) (sym c.deref-2.ensures.value) is.is_ram))
+    c.in_err-ram.ensures.fault)

@@ -1,19 +1,19 @@
 use Rattle.plm80_console.specs.AnswerLaws.{err_from, more_or_gives_up, wrong_arguments}
 use Rattle.plm80_runs.proofs.Names.{subst, Limits}
 use Rattle.plm80_runs.proofs.ReadLemmas.{same_limits}
-use Rattle.plm80_runs.specs.OnBoards.{AnswersBoard, CoversBoardFiles, CoversImage, board_program_paths}
+use Rattle.plm80_runs.specs.OnBoards.{AnswersRunOnBoard, CoversBoardFiles, CoversOnBoard, board_program_paths}
 use Rattle.plm80_runs.proofs.board_cover.cover_among_devices.Goals as goal
 
 pub returns : goal.returns
 returns g c =
     let asked = c.args.arguments in
     let limits = c.in_ok-limits.limits in
-    let both = more_or_gives_up (AnswersBoard (CoversImage limits) asked.files) (CoversBoardFiles asked) (board_program_paths asked.files)
+    let both = more_or_gives_up (AnswersRunOnBoard (CoversOnBoard limits) asked.files) (CoversBoardFiles asked) (board_program_paths asked.files)
     (g.C.Console.journal c.args.console.now) (g.C.Console.journal c.numbers.new.console) (g.C.Console.journal c.print_on_board-given.new.console)
     (λ files answer answers. record { limits = limits; are_limits = c.in_ok-limits.ensures.limits; answers = answers })
     c.in_ok-limits.ensures.unchanged
     (λ files answer is.
-    subst (λ (l : Limits). AnswersBoard (CoversImage l) asked.files files answer)
+    subst (λ (l : Limits). AnswersRunOnBoard (CoversOnBoard l) asked.files files answer)
     (same_limits asked.limits is.limits limits is.are_limits c.in_ok-limits.ensures.limits) is.answers)
     c.print_on_board-given.result
     (c.print_on_board-given.ensures.done, c.print_on_board-given.ensures.fault) in

@@ -2,7 +2,7 @@ use Rattle.plm80_console.specs.AnswerLaws.{err_from, gives_more, gives_up_more, 
 use Rattle.plm80_console.specs.Journal.{and_blamed}
 use Rattle.plm80_runs.proofs.ReadLemmas.{same_limits, same_span}
 use Rattle.plm80_runs.proofs.Names.{◌∙◌, ap, subst, Limits, Span}
-use Rattle.plm80_runs.specs.OnBoards.{AnswersBoard, TracesBoardFiles, TracesBoardFilesInPart, TracesImage, TracesImageInPart, board_program_paths}
+use Rattle.plm80_runs.specs.OnBoards.{AnswersRunOnBoard, TracesBoardFiles, TracesBoardFilesInPart, TracesOnBoard, TracesOnBoardInPart, board_program_paths}
 use Rattle.plm80_runs.proofs.board_trace.trace_among_devices.Goals as goal
 
 pub returns : goal.returns
@@ -15,20 +15,20 @@ returns g c =
     let new = g.C.Console.journal c.print_on_board-given.new.console in
     let same = c.in_ok-span.ensures.unchanged ∙ c.in_ok-limits.ensures.unchanged in
     record {
-      done = gives_more (AnswersBoard (TracesImage limits span) asked.files) (TracesBoardFiles asked) (board_program_paths asked.files)
+      done = gives_more (AnswersRunOnBoard (TracesOnBoard limits span) asked.files) (TracesBoardFiles asked) (board_program_paths asked.files)
           old between new
           (λ files answer answers.
           record { limits = limits; are_limits = c.in_ok-limits.ensures.limits; span = span; is_span = c.in_ok-span.ensures.span; answers = answers })
           same c.print_on_board-given.result c.print_on_board-given.ensures.done;
-      fault = gives_up_more (AnswersBoard (TracesImageInPart limits span) asked.files) (TracesBoardFilesInPart asked)
+      fault = gives_up_more (AnswersRunOnBoard (TracesOnBoardInPart limits span) asked.files) (TracesBoardFilesInPart asked)
           (board_program_paths asked.files) old between new
           (λ files answer answers.
           record { limits = limits; are_limits = c.in_ok-limits.ensures.limits; span = span; is_span = c.in_ok-span.ensures.span; answers = answers })
           same
           (λ files answer traces.
-          subst (λ (l : Limits). AnswersBoard (TracesImageInPart l span) asked.files files answer)
+          subst (λ (l : Limits). AnswersRunOnBoard (TracesOnBoardInPart l span) asked.files files answer)
           (same_limits asked.limits traces.limits limits traces.are_limits c.in_ok-limits.ensures.limits)
-          (subst (λ (s : Span). AnswersBoard (TracesImageInPart traces.limits s) asked.files files answer)
+          (subst (λ (s : Span). AnswersRunOnBoard (TracesOnBoardInPart traces.limits s) asked.files files answer)
           (same_span asked.span traces.span span traces.is_span c.in_ok-span.ensures.span) traces.answers))
           c.print_on_board-given.result c.print_on_board-given.ensures.fault;
     }
