@@ -9,15 +9,18 @@ use Rattle.std.proofs.lemmas.List.Elements.{All-append, All-contains, All-contai
 use Rattle.board80.specs.declared.line.{Kind.TheVariants.Rom, Line.Line}
 use Rattle.decode80.specs.declared.fetching.{FetchFault.FetchFault, Fetched.Fetched}
 use Rattle.decode80.specs.Fetch.{fetch}
-use Rattle.image80.specs.Image.{Located, PlacedBytes, memory_of}
+use Rattle.image80.specs.{Image.Located, Image.PlacedBytes, Image.memory_of, Regions.Areas, Regions.in_code}
+use Rattle.loader80_text.specs.declared.inputs.fault.LengthFault.{LengthFault}
+use Rattle.loader80_text.specs.declared.inputs.fault.LengthFault.TheVariants.{Memory, TooLong}
 use Rattle.plm80_boards.specs.Boards.{AreInterruptsIn, interrupts_in}
 use Rattle.plm80_boards.specs.RangeLaws.{one_list_in}
 use Rattle.plm80_console.specs.{Answer.AnswerValue, Answer.GivesUp, AnswerLaws.wrong_files, NumberText.word_value}
 use Rattle.plm80_console.specs.Journal.{Blames, FileValue, and_read_files, paths_of}
 use Rattle.verify80_cases.specs.Suggested.{holds_pchl}
 use Rattle.verify80_suggest.specs.Bytes.{may_be_code}
-use Rattle.verify80_suggest.specs.Known.{Fits, FitsCase, fetch_in}
-use Rattle.plm80_regions.specs.Suggest.{AreOptions}
+use Rattle.verify80_suggest.specs.Known.{Fits, FitsCase, FitsIn, fetch_in}
+use Rattle.verify80_suggest.specs.Ranges.{Covers}
+use Rattle.plm80_regions.specs.Suggest.{AreOptions, IsUnfit, advice_fault}
 use Rattle.plm80_regions.specs.declared.suggest.SuggestArguments.{SuggestArguments}
 use Rattle.plm80_regions.proofs.CaseTextLemmas.{each_fits}
 
@@ -69,21 +72,42 @@ fits_by image arguments board rom rom' ram ram' entries entries' cases cases' is
           (of_part Begins handlers (handlers ++ ats) (Contains-append_left handlers ats) behind) (each_at _ image cases each)));
     }
 
-abbrev fetch_of : (chunks : List PlacedBytes) → (rom : List Range) → ℕ → Result Fetched FetchFault
-fetch_of chunks rom at = fetch (λ place. nat_lt place 65536 && may_be_code chunks rom place) (λ place. slice_index (memory_of chunks) place) at
+-- it is the bytes of an image alone that they fit
+of_bytes : (code : ℕ → Bool) (image other : Located) → image.chunks ≡ other.chunks → (entries : List ℕ) (cases : List DeclaredCase)
+    → FitsIn code image entries cases → FitsIn code other entries cases
+of_bytes code image other same entries cases fits =
+    let Fetched_of : List PlacedBytes → ℕ → Result Fetched FetchFault = λ chunks at. fetch code (λ place. slice_index (memory_of chunks) place) at in
+    record {
+      each_case = λ k d below. record {
+        pchl = subst (λ (chunks : List PlacedBytes). holds_pchl (Fetched_of chunks (get_or cases k d).at) ≡ true) same (fits.each_case k d below).pchl;
+        targets = subst (λ (chunks : List PlacedBytes). All (λ at. is_ok (Fetched_of chunks at) ≡ true) (get_or cases k d).targets) same
+            (fits.each_case k d below).targets;
+      };
+      each_entry = subst (λ (chunks : List PlacedBytes). All (λ at. is_ok (Fetched_of chunks at) ≡ true) entries) same fits.each_entry;
+    }
 
--- it is the bytes of an image alone that options fit
 pub fits_of : (image other : Located) → image.chunks ≡ other.chunks → (rom : List Range) (entries : List ℕ) (cases : List DeclaredCase)
     → Fits image rom entries cases → Fits other rom entries cases
 fits_of image other same rom entries cases fits =
-    record {
-      each_case = λ k d below. record {
-        pchl = subst (λ (chunks : List PlacedBytes). holds_pchl (fetch_of chunks rom (get_or cases k d).at) ≡ true) same (fits.each_case k d below).pchl;
-        targets = subst (λ (chunks : List PlacedBytes). All (λ at. is_ok (fetch_of chunks rom at) ≡ true) (get_or cases k d).targets) same
-            (fits.each_case k d below).targets;
-      };
-      each_entry = subst (λ (chunks : List PlacedBytes). All (λ at. is_ok (fetch_of chunks rom at) ≡ true) entries) same fits.each_entry;
-    }
+    subst (λ (chunks : List PlacedBytes). FitsIn (λ place. nat_lt place 65536 && may_be_code chunks rom place) other entries cases) same
+    (of_bytes _ image other same entries cases fits)
+
+-- with regions whose code is all bytes that may be
+module _ (image value : Located) (areas : Areas) (rom : List Range) (entries : List ℕ) (cases : List DeclaredCase)
+    (covers : Covers (may_be_code value.chunks rom) areas.code) where
+  pub fits_base : image.chunks ≡ value.chunks → FitsIn (in_code areas) image entries cases → Fits value rom entries cases
+  fits_base same fits =
+      subst (λ (code : ℕ → Bool). FitsIn code value entries cases) (λ k at. covers.exact at k) (of_bytes (in_code areas) image value same entries cases fits)
+
+  pub base_fits : image.chunks ≡ value.chunks → Fits value rom entries cases → FitsIn (in_code areas) image entries cases
+  base_fits same fits =
+      of_bytes (in_code areas) value image (sym same) entries cases
+      (subst (λ (code : ℕ → Bool). FitsIn code value entries cases) (λ k at. sym (covers.exact at) k) fits)
+
+-- a text of regions is none of what options say
+pub of_length : (fault : LengthFault) → IsUnfit (advice_fault fault) → ⊥
+of_length TooLong is = is
+of_length Memory is = is
 
 -- what is wrong of the one file that was read
 pub wrong_one : {Wrong : Type 0} (Answers : List FileValue → AnswerValue → Type 0) (path : List ℕ) (old between new : Journal) (file : FileValue)

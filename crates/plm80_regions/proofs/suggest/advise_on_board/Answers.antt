@@ -58,8 +58,8 @@ returns-in-Ok g c =
     printed.answer c.print_advice.result answers c.print_advice.ensures.given c.print_advice.ensures.fault in
     record { done = both.0; fault = both.1 }
 
-pub returns-in-Err-clause-fault : goal.returns-in-Err-clause-fault
-returns-in-Err-clause-fault g c =
+pub returns-clause-fault : goal.returns-clause-fault
+returns-clause-fault g c =
     let asked = c.args.arguments.now in
     let board = c.args.given.now.board in
     let bytes = c.in_ok-image.ensures.image.0 in
