@@ -1,5 +1,5 @@
 -- What follows for ranges that options write, or a board has: laws that hold whatever they are for. (This project's own.)
-use Rattle.std.specs.Prelude.{◌≡◌, ℕ, ◌<◌, List, [], ◌∷◌, ◌++◌, Option, None, Some, drop, slice_index_or}
+use Rattle.std.specs.Prelude.{◌≡◌, ℕ, ◌<◌, ◌≤◌, List, [], ◌∷◌, ◌++◌, Option, None, Some, drop, slice_index_or}
 use Rattle.std.specs.Char.{digit_value}
 use Rattle.std.specs.Str.Parse.{AllDigits}
 use Rattle.std.proofs.Common.{ap, arith, refl, subst, sym, ◌∙◌}
@@ -26,21 +26,22 @@ snoc_same {A} (a ∷ xs) (b ∷ ys) x y same =
 
 -- ---- a text writes one range
 
--- digits up to a colon
-split_once : (xs ys : List ℕ) (rest behind : List ℕ) → AllDigits 16 xs → AllDigits 16 ys → xs ++ 58 ∷ rest ≡ ys ++ 58 ∷ behind → (xs ≡ ys) × (rest ≡ behind)
-split_once [] [] rest behind all each same = (refl, ap (λ (l : List ℕ). drop 1 l) same)
-split_once [] (y ∷ ys) rest behind all each same =
-    absurd (omega (arith, subst (λ (n : ℕ). digit_value n < 16) (sym (ap (λ (l : List ℕ). slice_index_or l 0 0) same)) each.0))
-split_once (x ∷ xs) [] rest behind all each same =
-    absurd (omega (arith, subst (λ (n : ℕ). digit_value n < 16) (ap (λ (l : List ℕ). slice_index_or l 0 0) same) all.0))
-split_once (x ∷ xs) (y ∷ ys) rest behind all each same =
-    let more = split_once xs ys rest behind all.1 each.1 (ap (λ (l : List ℕ). drop 1 l) same) in
+-- digits up to a character that is none
+pub same_digits : (sign : ℕ) → 16 ≤ digit_value sign → (xs ys : List ℕ) (rest behind : List ℕ) → AllDigits 16 xs → AllDigits 16 ys
+    → xs ++ sign ∷ rest ≡ ys ++ sign ∷ behind → (xs ≡ ys) × (rest ≡ behind)
+same_digits sign none [] [] rest behind all each same = (refl, ap (λ (l : List ℕ). drop 1 l) same)
+same_digits sign none [] (y ∷ ys) rest behind all each same =
+    absurd (omega (arith, none, subst (λ (n : ℕ). digit_value n < 16) (sym (ap (λ (l : List ℕ). slice_index_or l 0 0) same)) each.0))
+same_digits sign none (x ∷ xs) [] rest behind all each same =
+    absurd (omega (arith, none, subst (λ (n : ℕ). digit_value n < 16) (ap (λ (l : List ℕ). slice_index_or l 0 0) same) all.0))
+same_digits sign none (x ∷ xs) (y ∷ ys) rest behind all each same =
+    let more = same_digits sign none xs ys rest behind all.1 each.1 (ap (λ (l : List ℕ). drop 1 l) same) in
     let first : x ≡ y = ap (λ (l : List ℕ). slice_index_or l 0 x) same in
     ((λ k. first k ∷ more.0 k), more.1)
 
 one_range : (text text' : List ℕ) (a b : Range) → IsRangeText text a → IsRangeText text' b → text ≡ text' → a ≡ b
 one_range text text' a b is are same =
-    let both = split_once is.before are.before is.behind are.behind is.is_first.0.1 are.is_first.0.1 (sym is.text_is ∙ same ∙ are.text_is) in
+    let both = same_digits 58 (omega arith) is.before are.before is.behind are.behind is.is_first.0.1 are.is_first.0.1 (sym is.text_is ∙ same ∙ are.text_is) in
     λ k. record {
       first = (is.first_is ∙ ap word_value both.0 ∙ sym are.first_is) k;
       length = (is.length_is ∙ ap word_value both.1 ∙ sym are.length_is) k;

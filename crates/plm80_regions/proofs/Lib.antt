@@ -1,3 +1,4 @@
 pub mod CaseLemmas
 mod CaseTextLemmas
+mod OptionLemmas
 mod Names

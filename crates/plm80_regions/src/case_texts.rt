@@ -1,7 +1,8 @@
 //! Cases as the option `--case` writes them.
 
-ghost use Rattle.std.specs.Prelude.{◌≡◌, ◌<◌, All, map, IfErr, IfOk, IfSome};
-ghost use Rattle.plm80_console.specs.Journal.{and_reported};
+ghost use Rattle.std.specs.Prelude.{◌≡◌, ◌<◌, ℕ, List, All, map, IfErr, IfNone, IfOk, IfSome};
+ghost use Rattle.image80.specs.Case.{DeclaredCase};
+ghost use Rattle.plm80_console.specs.Journal.{Blames};
 ghost use Rattle.plm80_regions.specs.CaseTexts.{AreCaseTexts, AreCasesWritten, AreTargetTexts, IsCaseText};
 
 use image80::Case;
@@ -25,13 +26,14 @@ pub(crate) fn cases_of<C: Console>(
 ) -> Result<Vec<Case>, Reported>
     ensures cases { IfOk result (λ cases. AreCasesWritten (map (λ value. value.now) values.now) cases.items) }
     ensures unchanged { IfOk result (λ _. C.journal console.new ≡ C.journal console.old) }
-    ensures fault { IfErr result (λ _. C.journal console.new ≡ and_reported (C.journal console.old)) }
+    ensures fault { let texts = map (λ value. value.now) values.now in IfErr result (λ _. Blames ((cases : List DeclaredCase) →
+        AreCasesWritten texts cases → ⊥) (C.journal console.old) (C.journal console.new)) }
 {
     let mut cases = written_cases(console, name, values)?;
     match sort_cases(&mut cases) {
         None => Ok(cases),
         Some(at) => {
-            let reported = console.report(CaseTwice(at));
+            let reported = console.blame(CaseTwice(at));
             console.explain(format_args!(
                 "name all targets of a PCHL in one --{name}, with commas between them"
             ));
@@ -49,7 +51,8 @@ fn written_cases<C: Console>(
 ) -> Result<Vec<Case>, Reported>
     ensures cases { IfOk result (λ cases. AreCaseTexts (map (λ value. value.now) values.now) cases.items) }
     ensures unchanged { IfOk result (λ _. C.journal console.new ≡ C.journal console.old) }
-    ensures fault { IfErr result (λ _. C.journal console.new ≡ and_reported (C.journal console.old)) }
+    ensures fault { let texts = map (λ value. value.now) values.now in IfErr result (λ _. Blames ((cases : List DeclaredCase) →
+        AreCaseTexts texts cases → ⊥) (C.journal console.old) (C.journal console.new)) }
 {
     let mut cases = Vec::new(console.alloc());
     for value in values {
@@ -59,7 +62,7 @@ fn written_cases<C: Console>(
         let Some(case) = written else {
             let wanted =
                 "an address, an equals sign and targets with commas between them, of one to four hexadecimal digits each";
-            return Err(OptionText::new(name, value).report_number(console, wanted));
+            return Err(OptionText::new(name, value).blame_number(console, wanted));
         };
         if cases.push(case).is_err() {
             return Err(console.report_memory());
@@ -68,9 +71,10 @@ fn written_cases<C: Console>(
     Ok(cases)
 }
 
-/// The case that a text writes as an address, an equals sign, and targets; `None` for any other text. `AllocError` if memory runs out.
+/// The case that a text writes as an address, an equals sign, and targets; `None` exactly for any other text. `AllocError` if memory runs out.
 fn case_of(alloc: Global, text: &str) -> Result<Option<Case>, AllocError>
-    ensures { IfOk result (λ case. IfSome case (IsCaseText text.now)) }
+    ensures case { IfOk result (λ case. IfSome case (IsCaseText text.now)) }
+    ensures none { IfOk result (λ case. IfNone case ((other : DeclaredCase) → IsCaseText text.now other → ⊥)) }
 {
     let Some((first, behind)) = text.split_once('=') else {
         return Ok(None);
@@ -86,10 +90,11 @@ fn case_of(alloc: Global, text: &str) -> Result<Option<Case>, AllocError>
     Ok(Some(Case { at, targets }))
 }
 
-/// The targets that a text writes, at least one, with commas between them, in order; `None` for any other text. `AllocError` if memory
+/// The targets that a text writes, at least one, with commas between them, in order; `None` exactly for any other text. `AllocError` if memory
 /// runs out.
 fn targets_of(alloc: Global, text: &str) -> Result<Option<Vec<u16>>, AllocError>
     ensures texts { IfOk result (λ targets. IfSome targets (λ targets. AreTargetTexts text.now targets.items)) }
+    ensures none { IfOk result (λ targets. IfNone targets ((others : List ℕ) → AreTargetTexts text.now others → ⊥)) }
     ensures words { IfOk result (λ targets. IfSome targets (λ targets. All (λ target. target < 65536) targets.items)) }
 {
     let mut targets = Vec::new(alloc);

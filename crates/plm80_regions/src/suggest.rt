@@ -3,18 +3,20 @@
 ghost use Rattle.std.specs.Prelude.{◌≡◌, ◌≤◌, ◌∷◌, ◌++◌, [], All, length, map, IfErr, IfOk, List, OnOk, ℕ};
 ghost use Rattle.image80.specs.Case.{AreByAddress, IsCase};
 ghost use Rattle.stream80.specs.WholeText.{text_limit};
+ghost use Rattle.verify80_suggest.specs.Known.{Fits};
 ghost use Rattle.image80.specs.RegionsText.{regions_text};
 ghost use Rattle.image80_file.specs.ImageFile.{SpellsImage, without_regions};
-ghost use Rattle.plm80_console.specs.{Answer.GaveUp, Answer.Gives, Answer.GivesUp, Answer.IsGiven, Answer.prints, Journal.OnlyBlames, Journal.and_read, Journal.and_reported};
+ghost use Rattle.plm80_console.specs.{Answer.GaveUp, Answer.Gives, Answer.GivesUp, Answer.IsGiven, Answer.prints, Journal.Blames, Journal.OnlyBlames, Journal.and_read};
 ghost use Rattle.plm80_files.specs.Wrong.{HaveNoImage};
 ghost use Rattle.plm80_boards.specs.Boards.{WithBoard, board_paths};
-ghost use Rattle.plm80_regions.specs.Suggest.{AdvisesRegions, AnswersAdvice, AreOptions, AreSuggestArguments, stack_words};
+ghost use Rattle.plm80_regions.specs.Suggest.{AdvisesRegions, AnswersAdvice, AreOptions, AreSuggestArguments, HaveNoOptions, IsUnfit, advice_fault, stack_words};
 ghost use Rattle.plm80_regions.specs.Cases.{notes_status};
 
 use crate::case_texts::cases_of;
 use crate::cases::{kept_cases, notes_status, remark_notes};
 use clap::ArgMatches;
 use image80::{Case, Image, Range, Regions, write_regions};
+use image80_file::laws::one_image_reading;
 use loader80::TEXT_LIMIT;
 use loader80_text::LengthFault;
 use plm80_boards::{BOARD, GivenBoard, board_path};
@@ -162,6 +164,7 @@ fn advise_on_board<C: Console>(
     ensures fault { let asked = arguments.now in IfErr result (λ _. GivesUp (AnswersAdvice asked given.now.board) (asked.image.now ∷ [])
         (C.journal console.old) (C.journal console.new)) }
 {
+    one_image_reading();
     let options = options_of(console, arguments, given)?;
     let known = options.known();
     let mut image = bare_image(console, arguments.image)?;
@@ -210,7 +213,7 @@ fn options_of<C: Console>(
 ) -> Result<Options, Reported>
     ensures options { IfOk result (λ options. AreOptions arguments.now given.now.board options.rom.items options.ram.items options.entries.items options.cases.items) }
     ensures unchanged { IfOk result (λ _. C.journal console.new ≡ C.journal console.old) }
-    ensures fault { IfErr result (λ _. C.journal console.new ≡ and_reported (C.journal console.old)) }
+    ensures fault { IfErr result (λ _. Blames (HaveNoOptions arguments.now given.now.board) (C.journal console.old) (C.journal console.new)) }
 {
     let rom = given.rom(console, ROM, &arguments.rom)?;
     let ram = given.data(console, RAM, &arguments.ram)?;
@@ -258,7 +261,11 @@ enum AdviceFault {
 }
 
 impl From<LengthFault> for AdviceFault {
-    fn from(fault: LengthFault) -> AdviceFault {
+    ghost from_gives = { λ given fault. fault ≡ advice_fault given };
+
+    fn from(fault: LengthFault) -> AdviceFault
+        ensures { result ≡ advice_fault fault }
+    {
         match fault {
             LengthFault::TooLong => AdviceFault::TooLong,
             LengthFault::Memory => AdviceFault::Memory,
@@ -267,19 +274,25 @@ impl From<LengthFault> for AdviceFault {
 }
 
 impl From<AllocError> for AdviceFault {
-    fn from(_error: AllocError) -> AdviceFault {
+    ghost use Rattle.plm80_regions.specs.declared.suggest.AdviceFault.TheVariants.{Memory};
+
+    ghost from_gives = { λ given fault. fault ≡ Memory };
+
+    fn from(_error: AllocError) -> AdviceFault
+        ensures { result ≡ Memory }
+    {
         AdviceFault::Memory
     }
 }
 
 /// Reports why no regions are suggested.
 fn report_advice_fault<C: Console>(console: &mut C, fault: AdviceFault) -> Reported
-    ensures { C.journal console.new ≡ and_reported (C.journal console.old) }
+    ensures { Blames (IsUnfit fault) (C.journal console.old) (C.journal console.new) }
 {
     match fault {
         AdviceFault::TooLong => console.report(LengthFault::TooLong),
         AdviceFault::Unfit(fault) => {
-            let reported = console.report(fault);
+            let reported = console.blame(fault);
             explain_unfit(console, fault);
             reported
         }
@@ -395,7 +408,9 @@ fn print_advice<C: Console>(console: &mut C, printed: PrintedAdvice) -> Result<u
 fn advise(alloc: Global, image: &mut Image, known: Known<'_>) -> Result<PrintedAdvice, AdviceFault>
     requires by_address { AreByAddress known.cases.now }
     requires each { All IsCase known.cases.now }
-    ensures { IfOk result (λ advised. AdvisesRegions image.old known.entry advised.advice advised.answer) }
+    ensures advised { IfOk result (λ advised. AdvisesRegions image.old known.entry advised.advice advised.answer) }
+    ensures unfit { let known = known.entry in IfErr result (λ fault. IsUnfit fault →
+        Fits image.old known.rom.now known.entries.now known.cases.now → ⊥) }
 {
     image.regions = base_regions(alloc, image, known)?;
     if let Some(fault) = find_fault(alloc, image, known)? {

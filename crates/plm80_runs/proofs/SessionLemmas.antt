@@ -3,7 +3,19 @@ use Rattle.plm80_runs.proofs.Names.{◌≡◌, ◌<◌, ℕ, List, [], Option, S
 use Rattle.plm80_runs.proofs.Names.{take-append-drop, Answers, IsGivenUp, LeavesFront, and_reported}
 use Rattle.plm80_runs.proofs.Names.{Outcome, SessionFault, Read, Write, Image, Regions, Inputs, Refused, TooLong, Sends, Says, Texts, Limits, IsAnswered}
 use Rattle.plm80_runs.proofs.Names.{prints, IsTakenBack, Journal, and_printed, AnswersTexts, session_status}
+use Rattle.plm80_runs.proofs.Names.{AnswerValue, Areas, Located, None, ◌≢◌}
+use Rattle.std.proofs.lemmas.Option.{none-some}
+use Rattle.image80.specs.RegionsText.{Refuses, Spells}
+use Rattle.image80.specs.declared.fault.RegionsFault.{RegionsFault, TheVariants.Memory as RegionsMemory}
+use Rattle.image80_file.specs.ImageFile.{NeverBothImage, without_regions}
+use Rattle.loader80.specs.{InputsText.bad_line, Session.Faults, Session.SpellsProgram}
 use Rattle.loader80.specs.declared.fault.SessionFault.TheVariants.{Memory}
+use Rattle.plm80_console.specs.Journal.{Blames, and_blamed}
+use Rattle.plm80_console.specs.Journal.Blames.{other as other_fault, wrong as what_is_wrong}
+use Rattle.plm80_names.specs.Blaming.{GivesUpOrBlames}
+use Rattle.plm80_names.specs.Blaming.GivesUpOrBlames.{given_up, wrong}
+use Rattle.plm80_runs.specs.Running.{fault_file, texts_of}
+use Rattle.plm80_runs.specs.declared.run_arguments.RunTexts.{RunTexts}
 use Rattle.plm80_console.specs.Answer.IsGivenUp.{within as unfinished}
 use Rattle.plm80_names.specs.FrontLaws.{nothing_printed, printed, stopped, stops_as_answer}
 
@@ -86,3 +98,87 @@ session_given_up limits texts said fault before after old lent between new empty
     stopped (λ text. (status : ℕ) × AnswersTexts limits texts (prints text status)) (AnswersTexts limits texts) before after old lent between new
     empty same (sent_none limits texts said fault before after is sends) taken reported
     (λ text whole stops. unfinished (prints text whole.0) whole.1 (stops_as_answer text whole.0 old new stops))
+
+-- ---- a session whose texts are blamed
+
+-- a text that spells regions is refused only if memory runs out
+abbrev pub NeverRefused : Type 0
+NeverRefused = (text : List ℕ) (areas : Areas) (fault : RegionsFault) → Spells text areas → Refuses text fault → fault ≡ RegionsMemory
+
+-- the texts of an answer spell a program and its inputs
+spelled : (limits : Limits) (texts : Texts) (answer : AnswerValue) (said : Result Outcome SessionFault) → Says limits.outputs limits.steps texts said answer.lines
+    → session_status said ≡ Ok answer.status → ((image : Located) × SpellsProgram texts image) × (bad_line texts.inputs ≡ None)
+spelled limits texts answer (Ok o) says is = ((says.image, says.program), says.inputs)
+spelled limits texts answer (Err (Refused r)) says is = ((says.0.0, says.0.1), says.2)
+spelled limits texts answer (Err (Read n)) says is = absurd cc
+spelled limits texts answer (Err Write) says is = absurd cc
+spelled limits texts answer (Err (Image f)) says is = absurd cc
+spelled limits texts answer (Err (Regions f)) says is = absurd cc
+spelled limits texts answer (Err (Inputs n)) says is = absurd cc
+spelled limits texts answer (Err Memory) says is = absurd cc
+spelled limits texts answer (Err (TooLong n)) says is = absurd cc
+
+-- a fault of the bytes of a text, which leaves no answer
+no_answer : NeverRefused → NeverBothImage → (limits : Limits) (texts : RunTexts) (fault : SessionFault) (text : List ℕ) (answer : AnswerValue)
+    → Faults (texts_of texts) fault text → fault_file texts fault ≢ None → AnswersTexts limits (texts_of texts) answer → ⊥
+no_answer refused both limits texts (Regions f) text answer faults of_file is =
+    let all = spelled limits (texts_of texts) answer is.said is.says is.status_is in
+    faults.1 (refused (texts_of texts).regions all.0.0.regions f all.0.1.regions faults.0)
+no_answer refused both limits texts (Image f) text answer faults of_file is =
+    let all = spelled limits (texts_of texts) answer is.said is.says is.status_is in
+    both (texts_of texts).image (without_regions all.0.0) f all.0.1.contents faults.1
+no_answer refused both limits texts (Inputs n) text answer faults of_file is =
+    none-some n (sym (spelled limits (texts_of texts) answer is.said is.says is.status_is).1 ∙ faults.1)
+no_answer refused both limits texts (Refused r) text answer faults of_file is = absurd (of_file refl)
+no_answer refused both limits texts (Read n) text answer faults of_file is = absurd (of_file refl)
+no_answer refused both limits texts Write text answer faults of_file is = absurd (of_file refl)
+no_answer refused both limits texts Memory text answer faults of_file is = absurd (of_file refl)
+no_answer refused both limits texts (TooLong n) text answer faults of_file is = absurd (of_file refl)
+
+-- what was sent of such a fault: nothing
+sent_fault : (limits : Limits) (texts : RunTexts) (fault : SessionFault) (before after : Option (List ℕ))
+    → Sends limits.outputs limits.steps (texts_of texts) (Err fault) before after → fault_file texts fault ≢ None
+    → (text : List ℕ) × Faults (texts_of texts) fault text × Appends before after []
+sent_fault limits texts (Regions f) before after sends of_file =
+    (sends.text, sends.answers.1, subst (Appends before after) sends.answers.1.2 sends.appended)
+sent_fault limits texts (Image f) before after sends of_file =
+    (sends.text, sends.answers.1, subst (Appends before after) sends.answers.1.3 sends.appended)
+sent_fault limits texts (Inputs n) before after sends of_file =
+    (sends.text, sends.answers.1, subst (Appends before after) sends.answers.1.2 sends.appended)
+sent_fault limits texts (Refused r) before after sends of_file = absurd (of_file refl)
+sent_fault limits texts (Read n) before after sends of_file = absurd (of_file refl)
+sent_fault limits texts Write before after sends of_file = absurd (of_file refl)
+sent_fault limits texts Memory before after sends of_file = absurd (of_file refl)
+sent_fault limits texts (TooLong n) before after sends of_file = absurd (of_file refl)
+
+fault_in : Result ℕ SessionFault → SessionFault
+fault_in (Ok status) = Memory
+fault_in (Err fault) = fault
+
+of_fault : {fault other : SessionFault} → Err {T = ℕ} fault ≡ Err other → Err {T = Outcome} fault ≡ Err other
+of_fault is = ap Err (ap fault_in is)
+
+-- what is said is the fault, if it has no status
+said_fault : (said : Result Outcome SessionFault) (fault : SessionFault) → session_status said ≡ Err fault → said ≡ Err fault
+said_fault (Ok o) fault is = absurd cc
+said_fault (Err (Refused r)) fault is = absurd cc
+said_fault (Err (Read n)) fault is = of_fault is
+said_fault (Err Write) fault is = of_fault is
+said_fault (Err (Image f)) fault is = of_fault is
+said_fault (Err (Regions f)) fault is = of_fault is
+said_fault (Err (Inputs n)) fault is = of_fault is
+said_fault (Err Memory) fault is = of_fault is
+said_fault (Err (TooLong n)) fault is = of_fault is
+
+pub session_blamed_or_given_up : NeverRefused → NeverBothImage → (limits : Limits) (texts : RunTexts) (said : Result Outcome SessionFault)
+    (fault : SessionFault) (before after : Option (List ℕ)) (old lent between new : Journal) → before ≡ Some [] → lent ≡ old
+    → Sends limits.outputs limits.steps (texts_of texts) said before after → session_status said ≡ Err fault → IsTakenBack after lent between
+    → Blames (fault_file texts fault ≢ None) between new
+    → GivesUpOrBlames ((answer : AnswerValue) → AnswersTexts limits (texts_of texts) answer → ⊥) (AnswersTexts limits (texts_of texts)) old new
+session_blamed_or_given_up refused both limits texts said fault before after old lent between new empty same sends is taken (other_fault reported) =
+    given_up (session_given_up limits (texts_of texts) said fault before after old lent between new empty same sends is taken reported)
+session_blamed_or_given_up refused both limits texts said fault before after old lent between new empty same sends is taken (what_is_wrong of_file blamed) =
+    let own = sent_fault limits texts fault before after
+    (subst (λ (s : Result Outcome SessionFault). Sends limits.outputs limits.steps (texts_of texts) s before after) (said_fault said fault is) sends) of_file in
+    wrong (λ answer answers. no_answer refused both limits texts fault own.0 answer own.1 of_file answers)
+    (blamed ∙ ap and_blamed (printed before after [] old lent between empty same own.2 taken ∙ nothing_printed old))

@@ -1,13 +1,16 @@
 //! A session on files, with its transcript on standard output.
 
-ghost use Rattle.std.specs.Prelude.{◌≡◌, ◌<◌, IfErr, IfOk, option_copied};
+ghost use Rattle.std.specs.Prelude.{◌≡◌, ◌≢◌, ◌<◌, None, IfErr, IfOk, option_copied};
 ghost use Rattle.loader80.specs.Sends.{Sends};
-ghost use Rattle.plm80_console.specs.{Answer.Gives, Answer.GivesUp, Answer.IsAnswered, Answer.IsGivenUp, Journal.and_reported};
+ghost use Rattle.plm80_console.specs.{Answer.AnswerValue, Answer.Gives, Answer.GivesUp, Answer.IsAnswered, Journal.Blames, Journal.and_blamed};
+ghost use Rattle.plm80_names.specs.Blaming.{GivesUpOrBlames};
 ghost use Rattle.plm80_runs.specs.Running.{AnswersSession, AnswersTexts, fault_file, session_status, texts_of};
 ghost use Rattle.plm80_runs.specs.Arguments.{run_paths};
 
 use crate::run_arguments::{RunFiles, RunTexts};
 use crate::status::{EndWords, status_of};
+use image80::laws::text_of_regions_is_read_as_itself;
+use image80_file::laws::one_image_reading;
 use loader80::{Outcome, SessionFault, session};
 use loader80_trace::Limits;
 use plm80_console::{Console, ReadFile, Reported};
@@ -38,8 +41,11 @@ fn print_session<C: Console>(
     limits: Limits,
 ) -> Result<u8, Reported>
     ensures done { IfOk result (IsAnswered (AnswersTexts limits (texts_of texts.now)) (C.journal console.old) (C.journal console.new)) }
-    ensures fault { IfErr result (λ _. IsGivenUp (AnswersTexts limits (texts_of texts.now)) (C.journal console.old) (C.journal console.new)) }
+    ensures fault { IfErr result (λ _. GivesUpOrBlames ((answer : AnswerValue) → AnswersTexts limits (texts_of texts.now) answer → ⊥)
+        (AnswersTexts limits (texts_of texts.now)) (C.journal console.old) (C.journal console.new)) }
 {
+    text_of_regions_is_read_as_itself();
+    one_image_reading();
     let mut output = console.output();
     let answer = session_of(console.alloc(), texts, limits, &mut output);
     let failure = console.take_back(output);
@@ -97,7 +103,7 @@ fn report_session<C: Console>(
     fault: SessionFault,
     failure: Option<ErrorKind>,
 ) -> Reported
-    ensures { C.journal console.new ≡ and_reported (C.journal console.old) }
+    ensures { Blames (fault_file texts.now fault ≢ None) (C.journal console.old) (C.journal console.new) }
 {
     match (file_of_fault(texts, fault), fault) {
         (Some(file), _) => report_text(console, file, fault),
@@ -124,9 +130,9 @@ fn file_of_fault<'t, 'a>(texts: &'t RunTexts<'a>, fault: SessionFault) -> Option
 
 /// Reports a fault of the bytes of `file`, and says what is wrong with them, if words are asked for.
 fn report_text<C: Console>(console: &mut C, file: &ReadFile<'_>, fault: SessionFault) -> Reported
-    ensures { C.journal console.new ≡ and_reported (C.journal console.old) }
+    ensures { C.journal console.new ≡ and_blamed (C.journal console.old) }
 {
-    let reported = console.report_file(file.path, fault);
+    let reported = console.blame_file(file.path, fault);
     match fault {
         SessionFault::Image(fault) => explain_image(console, &file.bytes, fault),
         SessionFault::Regions(fault) => {

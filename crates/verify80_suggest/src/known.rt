@@ -1,10 +1,10 @@
 //! What is known of an image beforehand.
 
-ghost use Rattle.std.specs.Prelude.{◌≡◌, IfOk, IfSome, false};
-ghost use Rattle.image80.specs.Image.{memory_of};
+ghost use Rattle.std.specs.Prelude.{◌≡◌, All, IfNone, IfOk, IfSome, true};
+ghost use Rattle.image80.specs.{Image.memory_of, Regions.in_code};
 ghost use Rattle.verify80.specs.LookLaws.{fetch_at};
 ghost use Rattle.verify80_cases.specs.Suggested.{holds_pchl};
-ghost use Rattle.verify80_suggest.specs.Known.{IsUnfit, has_instruction};
+ghost use Rattle.verify80_suggest.specs.Known.{FitsCase, FitsIn, IsUnfit, has_instruction};
 
 use decode80::{Instr, fetch};
 use image80::{Case, Image, Range};
@@ -47,23 +47,51 @@ pub fn find_fault(
     image: &Image,
     known: Known<'_>,
 ) -> Result<Option<KnownFault>, AllocError>
-    ensures { IfOk result (λ fault. IfSome fault (IsUnfit image.now)) }
+    ensures there { IfOk result (λ fault. IfSome fault (IsUnfit image.now)) }
+    ensures unfit { let known = known.entry in IfOk result (λ fault. IfSome fault (λ _.
+        FitsIn (in_code image.now.regions) image.now known.entries.now known.cases.now → ⊥)) }
+    ensures fits { let known = known.entry in IfOk result (λ fault. IfNone fault
+        (FitsIn (in_code image.now.regions) image.now known.entries.now known.cases.now)) }
 {
     let code = ImageCode::new(alloc, image)?;
-    for case in known.cases {
-        if !holds_pchl(&code, case.at) {
-            return Ok(Some(KnownFault::NotPchl(case.at)));
-        }
-        if let Some(fault) = lacking_instruction(&code, &case.targets) {
-            return Ok(Some(fault));
-        }
+    if let Some(fault) = unfit_case(&code, known.cases) {
+        return Ok(Some(fault));
     }
     Ok(lacking_instruction(&code, known.entries))
 }
 
+/// The fault of the first of these cases that doesn't fit; `None` if each does.
+fn unfit_case(code: &ImageCode<'_>, cases: &[Case]) -> Option<KnownFault>
+    ensures there { IfSome result (IsUnfit code.now) }
+    ensures unfit { IfSome result (λ _. All (FitsCase (in_code code.now.regions) code.now) cases.now → ⊥) }
+    ensures fits { IfNone result (All (FitsCase (in_code code.now.regions) code.now) cases.now) }
+{
+    for case in cases {
+        if let Some(fault) = fault_of_case(code, case) {
+            return Some(fault);
+        }
+    }
+    None
+}
+
+/// The fault of a case: no PCHL is at its address, or no instruction begins at one of its targets; `None` if it fits.
+fn fault_of_case(code: &ImageCode<'_>, case: &Case) -> Option<KnownFault>
+    ensures there { IfSome result (IsUnfit code.now) }
+    ensures unfit { IfSome result (λ _. FitsCase (in_code code.now.regions) code.now case.now → ⊥) }
+    ensures fits { IfNone result (FitsCase (in_code code.now.regions) code.now case.now) }
+{
+    if holds_pchl(code, case.at) {
+        lacking_instruction(code, &case.targets)
+    } else {
+        Some(KnownFault::NotPchl(case.at))
+    }
+}
+
 /// The fault of the first of these addresses at which no instruction begins; `None` if one begins at each.
 fn lacking_instruction(code: &ImageCode<'_>, addresses: &[u16]) -> Option<KnownFault>
-    ensures { IfSome result (IsUnfit code.now) }
+    ensures there { IfSome result (IsUnfit code.now) }
+    ensures unfit { IfSome result (λ _. All (λ at. has_instruction code.now at ≡ true) addresses.now → ⊥) }
+    ensures fits { IfNone result (All (λ at. has_instruction code.now at ≡ true) addresses.now) }
 {
     for at in addresses {
         if !has_instruction(code, *at) {

@@ -1,6 +1,7 @@
 //! Cases by address.
 
-ghost use Rattle.std.specs.Prelude.{◌≡◌, ◌++◌, IfNone, IfOk, IsPermutation, OnOk};
+ghost use Rattle.std.specs.Prelude.{◌≡◌, ◌≢◌, ◌++◌, AllPairs, IfNone, IfOk, IfSome, IsPermutation, OnOk};
+ghost use Rattle.std.specs.List.Sorted.{IsNonDecreasingBy};
 ghost use Rattle.image80.specs.Case.{AreByAddress};
 
 use image80::Case;
@@ -10,14 +11,17 @@ use std::alloc::{AllocError, Global};
 pub fn sort_cases(cases: &mut Vec<Case>) -> Option<u16>
     ensures permutation { IsPermutation cases.old.items cases.new.items }
     ensures by_address { IfNone result (AreByAddress cases.new.items) }
+    ensures twice { IfSome result (λ _. AllPairs (λ one other. one.at ≢ other.at) cases.new.items → ⊥) }
 {
     cases.sort_unstable_by_key(|case| case.at);
     repeated_address(cases)
 }
 
-/// The address of the first case that isn't above those before; `None` if there is none.
+/// The address of the first case that isn't above those before, so that two cases have it if they ascend; `None` if there is none.
 fn repeated_address(cases: &[Case]) -> Option<u16>
-    ensures { IfNone result (AreByAddress cases.now) }
+    ensures by_address { IfNone result (AreByAddress cases.now) }
+    ensures twice { IsNonDecreasingBy (λ case. case.at) cases.now
+        → IfSome result (λ _. AllPairs (λ one other. one.at ≢ other.at) cases.now → ⊥) }
 {
     let mut limit = 0_u32;
     for case in cases {

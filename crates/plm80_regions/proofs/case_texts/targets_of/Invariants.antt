@@ -9,6 +9,7 @@ abbrev pub invariant-loop-first : goal.invariant-loop-first
 invariant-loop-first l = record {
   is_text : shadow (Utf8 l.rest);
   left : (others : List ℕ) → AreTargetTexts l.rest others → AreTargetTexts l.fn.text (l.targets.items ++ others);
+  whole : (others : List ℕ) → AreTargetTexts l.fn.text others → (left : List ℕ) × AreTargetTexts l.rest left;
   words : All (λ target. target < 65536) l.targets.items;
 }
 

@@ -3,10 +3,12 @@ use Rattle.image80.specs.Case.{AreByAddress, IsCase}
 use Rattle.board80.specs.declared.line.Line.{Line}
 use Rattle.plm80_regions.specs.Suggest.{AreOptions}
 use Rattle.plm80_regions.specs.declared.suggest.SuggestArguments.{SuggestArguments}
-use Rattle.plm80_console.specs.AnswerLaws.{gives_or_gives_up, reported_after}
-use Rattle.plm80_console.specs.Answer.GivesUp.{before}
-use Rattle.image80_file.specs.ImageFile.{without_regions}
-use Rattle.plm80_console.specs.AnswerLaws.{err_from, gives_up_unanswered, only_blames_same}
+use Rattle.std.specs.Prelude.{slice_index_or}
+use Rattle.image80_file.specs.ImageFile.{AbsoluteProgram, SpellsImage, without_regions}
+use Rattle.plm80_console.specs.{Answer.AnswerValue, Journal.FileValue}
+use Rattle.plm80_console.specs.AnswerLaws.{err_from, gives_or_gives_up, gives_up_unanswered, only_blames_same, wrong_so_far}
+use Rattle.plm80_regions.specs.Suggest.{IsUnfit}
+use Rattle.plm80_regions.proofs.OptionLemmas.{fits_by, fits_of, wrong_one}
 use Rattle.plm80_files.specs.WrongLaws.{no_image}
 use Rattle.plm80_regions.proofs.Names.{subst}
 use Rattle.plm80_regions.proofs.suggest.advise_on_board.Goals as goal
@@ -47,7 +49,7 @@ returns-in-Ok g c =
           options.cases.items known.cases.now c.known-known.ensures.rom c.known-known.ensures.ram c.known-known.ensures.entries
           c.known-known.ensures.cases c.in_ok-options.ensures.options;
       advice = printed.advice;
-      advises = c.in-Ok.ensures;
+      advises = c.in-Ok.ensures.advised;
     } in
     let both = gives_or_gives_up (AnswersAdvice asked board) (asked.image.now ∷ []) (g.C.Console.journal c.args.console.now) (g.C.Console.journal c.bare_image.new.console)
     (g.C.Console.journal c.print_advice.new.console) (file ∷ []) refl
@@ -59,14 +61,40 @@ returns-in-Ok g c =
 pub returns-clause-fault : goal.returns-clause-fault
 returns-clause-fault g c =
     let asked = c.args.arguments.now in
+    let board = c.args.given.now.board in
     let bytes = c.in_ok-image.ensures.image.0 in
-    before
-    (reported_after (g.C.Console.journal c.args.console.now) (g.C.Console.journal c.bare_image.new.console)
-    (g.C.Console.journal c.report_advice_fault.new.console)
-    (file_value asked.image.now bytes ∷ []) (asked.image.now ∷ []) refl
-    (c.in_ok-image.ensures.image.2
-    ∙ ap (λ (j : Journal). and_read j asked.image.now bytes) c.in_ok-options.ensures.unchanged)
-    c.report_advice_fault.ensures)
+    let file = file_value asked.image.now bytes in
+    let image = c.in_ok-image.image in
+    let options = c.in_ok-options.options in
+    let known = c.known-known.result in
+    let own : AreOptions asked board known.rom.now known.ram.now known.entries.now known.cases.now =
+    known_options asked board options.rom.items known.rom.now options.ram.items known.ram.now options.entries.items known.entries.now
+    options.cases.items known.cases.now c.known-known.ensures.rom c.known-known.ensures.ram c.known-known.ensures.entries
+    c.known-known.ensures.cases c.in_ok-options.ensures.options in
+    let none : IsUnfit c.in-Err.fault → (answer : AnswerValue) → AnswersAdvice asked board (file ∷ []) answer → ⊥ =
+    λ unfit answer is.
+    let same : is.file ≡ file = sym (ap (λ (fs : List FileValue). slice_index_or fs 0 is.file) is.files_are) in
+    let read : SpellsImage bytes (without_regions is.image) = subst (λ (f : FileValue). SpellsImage f.bytes (without_regions is.image)) same is.contents in
+    let chunks = ap (λ (p : AbsoluteProgram). p.chunks)
+    (c.one_image_reading.ensures.image bytes (without_regions is.image) (without_regions image) read c.in_ok-image.ensures.image.1) in
+    c.in-Err.ensures.unfit unfit
+    (fits_of is.image image chunks known.rom.now known.entries.now known.cases.now
+    (fits_by is.image asked board known.rom.now is.known.rom.now known.ram.now is.known.ram.now known.entries.now is.known.entries.now known.cases.now
+    is.known.cases.now own is.options is.advises.fits)) in
+    wrong_one (AnswersAdvice asked board) asked.image.now (g.C.Console.journal c.args.console.now) (g.C.Console.journal c.bare_image.new.console)
+    (g.C.Console.journal c.report_advice_fault.new.console) file refl
+    (c.in_ok-image.ensures.image.2 ∙ ap (λ (j : Journal). and_read j asked.image.now bytes) c.in_ok-options.ensures.unchanged)
+    none c.report_advice_fault.ensures
+
+pub returns-in_err-options-clause-fault : goal.returns-in_err-options-clause-fault
+returns-in_err-options-clause-fault g c =
+    let asked = c.args.arguments.now in
+    let old = g.C.Console.journal c.args.console.now in
+    err_from c.from_residual.result
+    (wrong_so_far (AnswersAdvice asked c.args.given.now.board) (asked.image.now ∷ []) old old (g.C.Console.journal c.options_of.new.console) []
+    (asked.image.now ∷ []) refl refl
+    (λ lacks others answer named is. lacks is.known.rom.now is.known.ram.now is.known.entries.now is.known.cases.now is.options)
+    c.in_err-options.ensures.fault)
 
 pub returns-in_err-image-clause-fault : goal.returns-in_err-image-clause-fault
 returns-in_err-image-clause-fault g c =
