@@ -26,7 +26,7 @@ use Rattle.verify80_follow.specs.declared.{calls.Summary.Summary, followed.Follo
 use Rattle.verify80_follow.specs.InterruptedBoards.{OnInterruptedBoard, Wakes, begins, disturbed, enabled_after, executed, woken}
 use Rattle.verify80_follow.specs.Stack.{HoldsFrom, HoldsStack, bounds_of, pointer_at}
 use Rattle.verify80_follow.specs.Held.{Entry, HoldsBeside, HoldsPairHeld, HoldsSaved, count_of, no_pair}
-use Rattle.verify80_follow.specs.Follows.{FitsSummary, Follows, Goes, Has, IsBehindCall, IsWay, PassesBy, ReturnsBack, StateFollows, StateStands}
+use Rattle.verify80_follow.specs.Follows.{FitsSummary, Follows, Goes, Has, IsBehindCall, IsWay, PassesBy, ReturnsBack, StateStands}
 use Rattle.verify80_follow.specs.Follows.{StepsOver, Summarizes, beside_call, called, entered_stack, is_call, is_return, places_among, stack_of}
 use Rattle.verify80_follow.specs.Handling.{on_stack}
 use Rattle.verify80_follow.specs.Live.{entering}

@@ -18,7 +18,7 @@ use Rattle.machine80.specs.{Effects.goes_to, Effects.pointed_bytes, Effects.stac
 use Rattle.machine80.specs.{Effects.touched_by, Effects.word_in, Run.world_of, declared.cpu.Cpu.Cpu, declared.flags.Flags.Flags}
 use Rattle.machine80.specs.{ArithmeticLaws.StatusWordRoundTrip, FactsLaws.InstructionsKeepToFacts}
 use Rattle.machine80.specs.Step.{Machine, guard, leads_outside, proceeded}
-use Rattle.machine80.specs.World.{IsJustBelow, World, is_return_taken, places_after}
+use Rattle.machine80.specs.World.{World, is_return_taken, places_after}
 use Rattle.verify80.specs.Boards.{Disturbs, Executes, StaysInside, fetched_anywhere, respected_pointer, sets_sp, unguarded, LeavesProgram}
 use Rattle.verify80.specs.{LookLaws.fetch_at, Looking.declared_targets, Looking.halt_follows, Looking.is_declared, Looking.is_pchl as is_pchl_instr}
 use Rattle.decode80.specs.Spelling.{opcode}

@@ -860,13 +860,15 @@ module _ (laws : Laws) (grounds : (regions : Areas) → AreRegions regions → G
 
   pub live_keeps : PromiseOfLive image quiet is_set handlers places ways listed main inner
   live_keeps start pc whole code held top w set flag None board =
-      let runs = knows start pc whole code held top set flag None w board in
-      (placed w.machine.cpu.pc (main_stands set runs.enabled w runs.main_known),
-        record { keeps = main_keeps set runs.enabled w runs.main_known; pushes = pushes_of start pc whole code held top set flag w runs })
+      let runs = knows start pc whole code held top set flag None w board in (
+        placed w.machine.cpu.pc (main_stands set runs.enabled w runs.main_known),
+        record { keeps = main_keeps set runs.enabled w runs.main_known; pushes = pushes_of start pc whole code held top set flag w runs },
+      )
   live_keeps start pc whole code held top w set flag (Some u) board =
-      let known = knows start pc whole code held top set flag (Some u) w board in
-      (subst (λ n. Contains places n) known.1.known.at (one_of (λ (s : FollowedState). Contains places s.at) known.1.of.table known.1.known.place known.1.known.state known.1.placed_in known.1.known.there),
-        keeps_handler start pc whole code held top u flag w known.1)
+      let known = knows start pc whole code held top set flag (Some u) w board in (
+        subst (λ n. Contains places n) known.1.known.at (one_of (λ (s : FollowedState). Contains places s.at) known.1.of.table known.1.known.place known.1.known.state known.1.placed_in known.1.known.there),
+        keeps_handler start pc whole code held top u flag w known.1,
+      )
 
 pub live_promise : Laws → ((regions : Areas) → AreRegions regions → Ground regions) → LiveMachinesKeepThePromise
 live_promise laws grounds image quiet is_set handlers places ways listed mtable main inner rules quiet_data loud main_fits placed tables room = live_keeps laws grounds image quiet is_set handlers places ways listed main inner rules quiet_data loud mtable main_fits placed tables room

@@ -1,5 +1,5 @@
 -- Where the states of a table stand is among where those of all tables stand.
-use Rattle.std.specs.Prelude.{◌≡◌, ℕ, List, [], ◌∷◌, ◌++◌, All, Contains, map}
+use Rattle.std.specs.Prelude.{ℕ, List, [], ◌∷◌, ◌++◌, All, Contains, map}
 use Rattle.std.specs.List.{flat_map}
 use Rattle.std.proofs.Common.{append_assoc, arith, refl, subst}
 use Rattle.std.proofs.lemmas.List.Elements.{All-cons, All-contains, All-nil, Contains-append_left, Contains-append_right}
@@ -60,6 +60,6 @@ handler_placed table handlers =
     let inner = flat_map inner_places table.summaries.items in
     all_of (λ h. (at : ℕ) → Contains (handler_places h) at → Contains (flat_map handler_places handlers) at) (λ h. All (λ s. Contains (places_of table handlers) s.at) h.table.states.items) handlers
     (λ h within. all_of (λ s. Contains (handler_places h) s.at) (λ s. Contains (places_of table handlers) s.at) h.table.states.items
-        (λ s is. Contains-append_right states (inner ++ flat_map handler_places handlers) s.at (Contains-append_right inner (flat_map handler_places handlers) s.at (within s.at is)))
-        (own_places h.table.states.items))
+    (λ s is. Contains-append_right states (inner ++ flat_map handler_places handlers) s.at (Contains-append_right inner (flat_map handler_places handlers) s.at (within s.at is)))
+    (own_places h.table.states.items))
     (places_within handler_places handlers)

@@ -16,13 +16,13 @@ returns c =
     let states = map (λ (s : FollowedState). s.at) table.states.items in
     let inner = flat_map (λ (summary : Summary). map (λ (s : FollowedState). s.at) summary.states.items) table.summaries.items in
     let Kept : Type 0 = (f : Follows image run.interrupted quiet run.is_set table.ways.items table.listed table.states.items table.bytes)
-        × ((f.summaries ≡ table.summaries.items) × (table.bytes ≤ image.regions.stack.length)) in
+    × ((f.summaries ≡ table.summaries.items) × (table.bytes ≤ image.regions.stack.length)) in
     record {
       promise = ok_maps c.fits.result (λ f. f ≡ true → Kept)
           (λ f. f ≡ true → PromiseOf run.interrupted image quiet run.is_set (places_of table []) table.ways.items table.listed table.bytes)
           (λ f kept is. let k = kept is in
-              subst (λ (places : List ℕ). PromiseOf run.interrupted image quiet run.is_set places table.ways.items table.listed table.bytes)
-              (ap (λ (l : List Summary). places_among table.states.items l) k.1.0 ∙ ap (λ (l : List ℕ). states ++ l) (sym (append-nil inner)))
-              (c.followed_programs_keep_the_promise.ensures.promise run.interrupted image quiet run.is_set table.ways.items table.listed table.states.items table.bytes c.requires.rules c.requires.quiet k.0 k.1.1))
+          subst (λ (places : List ℕ). PromiseOf run.interrupted image quiet run.is_set places table.ways.items table.listed table.bytes)
+          (ap (λ (l : List Summary). places_among table.states.items l) k.1.0 ∙ ap (λ (l : List ℕ). states ++ l) (sym (append-nil inner)))
+          (c.followed_programs_keep_the_promise.ensures.promise run.interrupted image quiet run.is_set table.ways.items table.listed table.states.items table.bytes c.requires.rules c.requires.quiet k.0 k.1.1))
           c.fits.ensures.fits;
     }

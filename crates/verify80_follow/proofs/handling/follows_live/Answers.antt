@@ -23,9 +23,9 @@ returns c =
     let Kept : (addresses : List ℕ) (bytes : ℕ) → Type 0 = λ (addresses : List ℕ) (bytes : ℕ). PromiseOfLive image marked run.is_set addresses places table.ways.items table.listed table.bytes (record { written = written; bytes = bytes; ways = handler_ways handlers }) in
     let Keeps : (addresses : List ℕ) (bytes : ℕ) → Type 0 = λ (addresses : List ℕ) (bytes : ℕ). PromiseOfLive image quiet run.is_set addresses places table.ways.items table.listed table.bytes (handler_bounds image.regions run.writes.now bytes handlers) in
     let more : (addresses : List ℕ) (bytes : ℕ) → Kept addresses bytes → Keeps addresses bytes = λ (addresses : List ℕ) (bytes : ℕ) (promise : Kept addresses bytes).
-        live_of_more image marked quiet run.is_set addresses places table.ways.items table.listed table.bytes (record { written = written; bytes = bytes; ways = handler_ways handlers }) after.written
-        (λ at marked_here. within at (subst (λ (l : List Bool). is_marked l at ≡ true) c.deref-2.ensures.value marked_here))
-        (λ at marked_here. inside at (subst (λ (l : List Bool). is_marked l at ≡ true) c.deref-3.ensures.value marked_here)) promise in
+    live_of_more image marked quiet run.is_set addresses places table.ways.items table.listed table.bytes (record { written = written; bytes = bytes; ways = handler_ways handlers }) after.written
+    (λ at marked_here. within at (subst (λ (l : List Bool). is_marked l at ≡ true) c.deref-2.ensures.value marked_here))
+    (λ at marked_here. inside at (subst (λ (l : List Bool). is_marked l at ≡ true) c.deref-3.ensures.value marked_here)) promise in
     record {
       promise = ok_maps c.follows_live_marked.result (λ f. f ≡ true → Kept addresses run.most) (λ f. f ≡ true → Keeps addresses run.most)
           (λ f promise is. more addresses run.most (promise is)) c.follows_live_marked.ensures.promise;

@@ -19,22 +19,22 @@ returns c =
     let states = table.states.items in
     let main = c.in_ok-fits.ensures.fits c.if-not-branch.false in
     let placed : (at : ℕ) → Contains (places_among states main.0.summaries) at → Contains places at = λ at is.
-        program_placed table handlers at (subst (λ (l : List Summary). Contains (places_among states l) at) main.1.0 is) in
+    program_placed table handlers at (subst (λ (l : List Summary). Contains (places_among states l) at) main.1.0 is) in
     let room = c.if-not-has_room_for.ensures refl in
     let bounds : (bytes : ℕ) → HandlerBounds = λ (bytes : ℕ). record { written = written; bytes = bytes; ways = handler_ways handlers } in
     let Handled : Type 0 = All (IsHandled image states written quiet table.listed most) handlers in
     let Kept : (addresses : List ℕ) (bytes : ℕ) → Type 0 = λ (addresses : List ℕ) (bytes : ℕ). PromiseOfLive image quiet c.args.is_set addresses places table.ways.items table.listed table.bytes (bounds bytes) in
     let Among : (bytes at : ℕ) → Type 0 = λ (bytes at : ℕ). HandlesAmong image states written quiet (handler_ways handlers) places table.listed bytes at in
     let kept : (addresses : List ℕ) (bytes : ℕ) → ((at : ℕ) → Contains addresses at → Among bytes at) → table.bytes + bytes ≤ image.regions.stack.length → Kept addresses bytes =
-        λ (addresses : List ℕ) (bytes : ℕ) (tables : (at : ℕ) → Contains addresses at → Among bytes at) (fit : table.bytes + bytes ≤ image.regions.stack.length).
-        c.live_machines_keep_the_promise.ensures.promise image quiet c.args.is_set addresses places table.ways.items table.listed states table.bytes (bounds bytes) c.requires.rules c.requires.quiet
-        (c.if-not-are_apart.ensures refl) main.0 placed tables fit in
+    λ (addresses : List ℕ) (bytes : ℕ) (tables : (at : ℕ) → Contains addresses at → Among bytes at) (fit : table.bytes + bytes ≤ image.regions.stack.length).
+    c.live_machines_keep_the_promise.ensures.promise image quiet c.args.is_set addresses places table.ways.items table.listed states table.bytes (bounds bytes) c.requires.rules c.requires.quiet
+    (c.if-not-are_apart.ensures refl) main.0 placed tables fit in
     record {
       promise = ok_maps c.are_all_handled.result (λ f. f ≡ true → Handled) (λ f. f ≡ true → Kept (map (λ h. h.at) handlers) most)
           (λ f handled is. kept (map (λ (h : Handler). h.at) handlers) most (each_handled image table written quiet most handlers (handled is)) room)
           c.are_all_handled.ensures;
       each = ok_maps c.are_all_handled.result (λ f. f ≡ true → Handled) (λ f. f ≡ true → All (λ h. Kept (h.at ∷ []) h.table.bytes) handlers)
           (λ f handled is k d inside. kept ((get_or handlers k d).at ∷ []) (get_or handlers k d).table.bytes (handled_alone image table written quiet most handlers (handled is) k d inside)
-              (let few = (handled is k d inside).few in omega (arith, few, room)))
+          (let few = (handled is k d inside).few in omega (arith, few, room)))
           c.are_all_handled.ensures;
     }

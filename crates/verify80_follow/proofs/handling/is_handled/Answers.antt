@@ -24,18 +24,22 @@ returns c =
     let within = c.if-table-most.false in
     ok_maps c.all_handle.result (λ f. f ≡ true → All (λ s. Handles c.in_ok-program.program main written (record { top = c.top.result; length = bytes }) quiet code ways listed states bytes s) states)
     (λ f. f ≡ true → IsHandled image main written quiet listed c.args.most handler)
-    (λ f handle is. record { of = record {
-      table = states;
-      ways = ways;
-      bytes = bytes;
-      bounds = record { top = c.top.result; length = bytes };
-      fits = record {
-        code = code;
-        are_code = c.requires.code;
-        start = c.if-not-has_entry.ensures refl;
-        states = subst (λ (i : Located). All (λ s. Handles i main written (record { top = c.top.result; length = bytes }) quiet code ways listed states bytes s) states) same (handle is);
+    (λ f handle is. record {
+      of = record {
+        table = states;
+        ways = ways;
+        bytes = bytes;
+        bounds = record { top = c.top.result; length = bytes };
+        fits = record {
+          code = code;
+          are_code = c.requires.code;
+          start = c.if-not-has_entry.ensures refl;
+          states = subst (λ (i : Located). All (λ s. Handles i main written (record { top = c.top.result; length = bytes }) quiet code ways listed states bytes s) states) same (handle is);
+        };
+        few = omega arith;
+        room = omega arith;
+        among = λ way there. subst (λ (l : List Way). Contains l way) c.deref-3.ensures.value there;
       };
-      few = omega arith;
-      room = omega arith;
-      among = λ way there. subst (λ (l : List Way). Contains l way) c.deref-3.ensures.value there;
-    }; states = c.deref.ensures.value; few = grind (arith, nat_tests, within) }) c.all_handle.ensures
+      states = c.deref.ensures.value;
+      few = grind (arith, nat_tests, within);
+    }) c.all_handle.ensures
