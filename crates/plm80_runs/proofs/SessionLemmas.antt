@@ -151,24 +151,30 @@ sent_fault limits texts Write before after sends of_file = absurd (of_file refl)
 sent_fault limits texts Memory before after sends of_file = absurd (of_file refl)
 sent_fault limits texts (TooLong n) before after sends of_file = absurd (of_file refl)
 
-fault_in : Result ℕ SessionFault → SessionFault
+abbrev fault_in : Result ℕ SessionFault → SessionFault
 fault_in (Ok status) = Memory
 fault_in (Err fault) = fault
 
-of_fault : {fault other : SessionFault} → Err {T = ℕ} fault ≡ Err other → Err {T = Outcome} fault ≡ Err other
-of_fault is = ap Err (ap fault_in is)
+abbrev is_said : SessionFault → Result Outcome SessionFault
+is_said fault = Err fault
+
+abbrev has_none : SessionFault → Result ℕ SessionFault
+has_none fault = Err fault
+
+of_fault : (fault other : SessionFault) → has_none fault ≡ has_none other → is_said fault ≡ is_said other
+of_fault fault other is = ap is_said (ap fault_in is)
 
 -- what is said is the fault, if it has no status
 said_fault : (said : Result Outcome SessionFault) (fault : SessionFault) → session_status said ≡ Err fault → said ≡ Err fault
 said_fault (Ok o) fault is = absurd cc
 said_fault (Err (Refused r)) fault is = absurd cc
-said_fault (Err (Read n)) fault is = of_fault is
-said_fault (Err Write) fault is = of_fault is
-said_fault (Err (Image f)) fault is = of_fault is
-said_fault (Err (Regions f)) fault is = of_fault is
-said_fault (Err (Inputs n)) fault is = of_fault is
-said_fault (Err Memory) fault is = of_fault is
-said_fault (Err (TooLong n)) fault is = of_fault is
+said_fault (Err (Read n)) fault is = of_fault (Read n) fault is
+said_fault (Err Write) fault is = of_fault Write fault is
+said_fault (Err (Image f)) fault is = of_fault (Image f) fault is
+said_fault (Err (Regions f)) fault is = of_fault (Regions f) fault is
+said_fault (Err (Inputs n)) fault is = of_fault (Inputs n) fault is
+said_fault (Err Memory) fault is = of_fault Memory fault is
+said_fault (Err (TooLong n)) fault is = of_fault (TooLong n) fault is
 
 pub session_blamed_or_given_up : NeverRefused → NeverBothImage → (limits : Limits) (texts : RunTexts) (said : Result Outcome SessionFault)
     (fault : SessionFault) (before after : Option (List ℕ)) (old lent between new : Journal) → before ≡ Some [] → lent ≡ old
