@@ -25,7 +25,7 @@ stands_followed runs starts image table rules bytes keeps lines devices most ste
     let start = (board_start image).machine in
     let at = runs image rules bytes lines devices quiet (λ address is. never_both (in_data image.regions address)) most steps s reached in
     let kept = keeps start refl (length-memory_of image.chunks) (λ address here. refl) (starts image bytes) (λ set. refl) at.world true
-        (on_board_of_fewer image.regions quiet Anywhere (IsLeftOpenAt table.listed) start true (λ address here. tt) true at.world at.on) in
+    (on_board_of_fewer image.regions quiet Anywhere (IsLeftOpenAt table.listed) start true (λ address here. tt) true at.world at.on) in
     record {
       world = at.world;
       same = at.same;
