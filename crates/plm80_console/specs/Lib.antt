@@ -9,7 +9,6 @@ pub mod JoinedValues
 pub mod Kinds
 pub mod Pieces
 pub mod NumberText
-pub mod NumberLaws
 pub mod Ranges
 pub mod Refusals
 pub mod SyntaxTable
@@ -17,3 +16,4 @@ pub mod SyntaxTable
 pub mod HiddenCharacters
 pub mod SharedPaths
 pub mod AnswerLaws
+pub mod NumberLaws
