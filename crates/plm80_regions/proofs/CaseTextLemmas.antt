@@ -3,7 +3,6 @@ use Rattle.std.specs.Prelude.{◌≡◌, ◌≢◌, ◌⊎◌, ℕ, ◌+◌, ◌
 use Rattle.std.specs.Prelude.{Option, None, Some, length, map, eqb, refl}
 use Rattle.std.specs.List.{IsDistinct, dedup}
 use Rattle.std.specs.List.Sorted.{IsSorted}
-
 use Rattle.std.specs.Ordering.{nat_cmp}
 use Rattle.std.specs.Result.{is_ok}
 use Rattle.std.proofs.Common.{Bor, ap, append_assoc, arith, get_or, inl, inr, length-append, subst, sym, ◌∙◌}
