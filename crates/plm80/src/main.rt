@@ -21,7 +21,7 @@ use bundle_words::explain_bundle;
 use commands::{explain_if, refuse_arguments, run_command};
 use loader80::{Outcome, SessionFault};
 pub use loader80_text::{BUNDLE_LIMIT, BundleFault, bundle};
-use plm80_console::{Console, Reported, exit_code};
+use plm80_console::{Console, Lack, Reported, exit_code};
 use plm80_host::HostConsole;
 use plm80_runs::{EndWords, status_of};
 use std::alloc::{AllocError, Global};
@@ -123,12 +123,10 @@ fn report_bundle<C: Console>(console: &mut C, fault: BundleFault) -> Reported
     ensures { C.journal console.new ≡ and_fault (C.journal console.old) fault }
 {
     match fault {
-        BundleFault::Session(
-            SessionFault::Read(_)
-            | SessionFault::Write
-            | SessionFault::Memory
-            | SessionFault::TooLong(_),
-        ) => console.report(fault),
+        BundleFault::Session(SessionFault::Memory) => console.report_memory(),
+        BundleFault::Session(SessionFault::Write) => console.report(Lack::Write),
+        BundleFault::Session(SessionFault::Read(_)) => console.report(Lack::ReadInput),
+        BundleFault::Session(SessionFault::TooLong(_)) => console.report(Lack::LongInput),
         _ => console.blame(fault),
     }
 }

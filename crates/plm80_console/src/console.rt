@@ -8,6 +8,7 @@ ghost use Rattle.plm80_console.specs.Journal.{IsTakenBack, Journal, StopsPrintin
 
 use crate::answer::{Answer, WrittenFiles};
 use crate::failure_words::FailureWords;
+use crate::lack::Lack;
 use crate::new_file::NewFile;
 use crate::pieces::TakePieces;
 use crate::read_file::ReadFile;
@@ -83,15 +84,19 @@ pub trait Console {
     fn take_back(&mut self, output: Self::Output) -> Option<ErrorKind>
         ensures { IsTakenBack (Self.Output.written output) (journal self.old) (journal self.new) };
 
-    /// Prints a fault on standard error, in a line of its own.
-    fn report<F: Display + Drop>(&mut self, fault: F) -> Reported
+    /// Prints what the machine or its system lacks on standard error, in a line of its own.
+    fn report(&mut self, lack: Lack) -> Reported
+        ensures { journal self.new ≡ and_reported (journal self.old) };
+
+    /// Prints what is lacking at the file of this path on standard error, in a line of its own, with the path before it.
+    fn report_file(&mut self, path: &str, lack: Lack) -> Reported
         ensures { journal self.new ≡ and_reported (journal self.old) };
 
     /// Prints a fault of arguments or files on standard error, in a line of its own. The caller's contract says that it is there.
     fn blame<F: Display + Drop>(&mut self, fault: F) -> Reported
         ensures { journal self.new ≡ and_blamed (journal self.old) };
 
-    /// Prints an error of clap, or the help text that was asked for, on standard error.
+    /// Prints an error of clap on standard error that doesn't blame the words of the command line, or that memory runs out for it.
     fn report_usage(&mut self, error: &clap::Error) -> Reported
         ensures { journal self.new ≡ and_reported (journal self.old) };
 
@@ -118,13 +123,6 @@ pub trait Console {
     /// Whether two paths name one file, by whatever spellings and links.
     fn is_one_file(&self, first: &str, second: &str) -> bool;
 
-    /// Prints a fault of the file of this path on standard error, with the path before it.
-    fn report_file<F: Display + Drop>(&mut self, path: &str, fault: F) -> Reported
-        ensures { journal self.new ≡ and_reported (journal self.old) }
-    {
-        self.report(format_args!("{path} {fault}"))
-    }
-
     /// Prints a fault of the file of this path on standard error, as `blame` does, with the path before it.
     fn blame_file<F: Display + Drop>(&mut self, path: &str, fault: F) -> Reported
         ensures { journal self.new ≡ and_blamed (journal self.old) }
@@ -136,14 +134,14 @@ pub trait Console {
     fn report_memory(&mut self) -> Reported
         ensures { journal self.new ≡ and_reported (journal self.old) }
     {
-        self.report("Memory")
+        self.report(Lack::Memory)
     }
 
     /// Prints on standard error that standard output takes nothing more, as the fault `Write`; `failure` is why, if that is known.
     fn report_output(&mut self, failure: Option<ErrorKind>) -> Reported
         ensures { journal self.new ≡ and_reported (journal self.old) }
     {
-        let reported = self.report("Write");
+        let reported = self.report(Lack::Write);
         self.explain_any(FailureWords::of_output(failure));
         reported
     }

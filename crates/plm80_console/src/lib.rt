@@ -11,7 +11,7 @@
 //! | [`explain_board`], [`RangeTexts`] | ranges that may have been meant otherwise, in words |
 //! | [`Answer`], [`WrittenFile`] | what a command answers: files, lines and a status; a [`Console`] does it |
 //! | [`ReadFile`], [`FaultOf`] | a file with its path; a fault with the path of its file |
-//! | [`FailureWords`] | why the system failed, in words |
+//! | [`Lack`], [`FailureWords`] | what the machine or its system doesn't give; why the system failed, in words |
 //! | [`TakePieces`] | what takes the pieces of a file |
 //! | [`OneLine`] | a text that stays in its line |
 //! | [`laws`] | a fault behind files that were read, as a contract |
@@ -23,6 +23,7 @@ mod comparison;
 mod console;
 mod failure_words;
 mod joined_values;
+mod lack;
 pub mod laws;
 mod new_file;
 mod number_text;
@@ -40,6 +41,7 @@ pub use argument_texts::{argument_text, argument_values};
 pub use console::Console;
 pub use failure_words::FailureWords;
 pub use joined_values::push_copies;
+pub use lack::Lack;
 pub use new_file::NewFile;
 pub use number_text::{
     are_digits, byte_of_digits, count_of_digits, length_of_digits, word_of_digits,

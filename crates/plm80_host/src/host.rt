@@ -10,7 +10,7 @@ use crate::replacing::in_order;
 use crate::same_file::place_of;
 use crate::size_limit::room_of_output;
 use crate::usage::without_tip;
-use plm80_console::{Console, FailureWords, NewFile, OneLine, Reported, TakePieces};
+use plm80_console::{Console, FailureWords, Lack, NewFile, OneLine, Reported, TakePieces};
 use std::alloc::Global;
 use std::fmt::Display;
 use std::fs;
@@ -108,7 +108,7 @@ impl<'a> Console for HostConsole<'a> {
     fn replace_both(&mut self, first: NewFile<'_>, second: NewFile<'_>) -> Result<(), Reported> {
         if is_no_path(second.path) {
             self.note(&Note::Unwritten(second.path, false));
-            return Err(self.report_no_path(second.path, "Write"));
+            return Err(self.report_no_path(second.path, Lack::Write));
         }
         let first_draft = self.draft(first)?;
         match self.draft(second) {
@@ -164,7 +164,14 @@ impl<'a> Console for HostConsole<'a> {
         failure
     }
 
-    fn report<F: Display + Drop>(&mut self, fault: F) -> Reported {
+    fn report(&mut self, lack: Lack) -> Reported {
+        let reported = Reported::print(self.rt, format_args!("plm80: {lack}\n"));
+        self.note(&Note::Reported);
+        reported
+    }
+
+    fn report_file(&mut self, path: &str, lack: Lack) -> Reported {
+        let fault = format_args!("{path} {lack}");
         let reported = Reported::print(self.rt, format_args!("plm80: {}\n", OneLine(fault)));
         self.note(&Note::Reported);
         reported
@@ -199,7 +206,7 @@ impl<'a> Console for HostConsole<'a> {
     fn report_memory(&mut self) -> Reported {
         // Words would take memory, too.
         self.why = false;
-        self.report("Memory")
+        self.report(Lack::Memory)
     }
 
     fn explain_faults(&mut self) {
@@ -253,11 +260,11 @@ impl<'a> HostConsole<'a> {
         ensures fault { IfErr result (λ _. self.new.notes.journal ≡ and_reported self.old.notes.journal) }
     {
         if is_no_path(path) {
-            return Err(self.report_no_path(path, "Read"));
+            return Err(self.report_no_path(path, Lack::Read));
         }
         match File::open(self.rt, path) {
             Ok(file) => Ok(NotedReader::new(file)),
-            Err(error) => Err(self.report_system(path, "Read", Some(kind_of(&error)))),
+            Err(error) => Err(self.report_system(path, Lack::Read, Some(kind_of(&error)))),
         }
     }
 
@@ -272,10 +279,10 @@ impl<'a> HostConsole<'a> {
     }
 
     /// Reports the fault of a path that names no file, and says below it how standard streams are named, or that it is empty.
-    pub(crate) fn report_no_path(&mut self, path: &str, fault: &str) -> Reported
+    pub(crate) fn report_no_path(&mut self, path: &str, lack: Lack) -> Reported
         ensures { self.new.notes.journal ≡ and_reported self.old.notes.journal }
     {
-        let reported = self.report_file(path, fault);
+        let reported = self.report_file(path, lack);
         self.explain(if path.is_empty() {
             "the path is empty, as of a shell's variable that isn't set"
         } else {
@@ -288,12 +295,12 @@ impl<'a> HostConsole<'a> {
     pub(crate) fn report_system(
         &mut self,
         path: &str,
-        fault: &str,
+        lack: Lack,
         failure: Option<ErrorKind>,
     ) -> Reported
         ensures { self.new.notes.journal ≡ and_reported self.old.notes.journal }
     {
-        let reported = self.report_file(path, fault);
+        let reported = self.report_file(path, lack);
         self.explain_any(FailureWords::of(failure));
         reported
     }
@@ -308,9 +315,9 @@ impl<'a> HostConsole<'a> {
         ensures { self.new.notes.journal ≡ and_reported self.old.notes.journal }
     {
         match fault {
-            ReadAllFault::Read => self.report_system(path, "Read", failure),
+            ReadAllFault::Read => self.report_system(path, Lack::Read, failure),
             ReadAllFault::TooLong => {
-                let reported = self.report_file(path, "TooLong");
+                let reported = self.report_file(path, Lack::TooLong);
                 self.explain("it has more than 1048576 bytes");
                 reported
             }
@@ -324,14 +331,14 @@ impl<'a> HostConsole<'a> {
     {
         match fault {
             ReadAllFault::Read => {
-                let reported = self.report("Read 1");
+                let reported = self.report(Lack::ReadInput);
                 match failure {
                     Some(ErrorKind::NotConnected) => self.explain("standard input is closed"),
                     _ => self.explain_any(FailureWords::of(failure)),
                 }
                 reported
             }
-            ReadAllFault::TooLong => self.report("TooLong 1"),
+            ReadAllFault::TooLong => self.report(Lack::LongInput),
             ReadAllFault::Memory => self.report_memory(),
         }
     }

@@ -10,7 +10,7 @@ use crate::notes::Note;
 use crate::path_parts::folder_and_name;
 use crate::replacing::{PRIVATE, create_new};
 use crate::size_limit::is_past_limit;
-use plm80_console::{Console, Reported};
+use plm80_console::{Console, Lack, Reported};
 use std::alloc::AllocError;
 use std::fs::{File, Permissions};
 use std::io::{ErrorKind, Read, Seek, SeekFrom};
@@ -31,12 +31,12 @@ impl<'a> HostConsole<'a> {
             Ok(metadata) if metadata.is_file() => {}
             Ok(_) => return Ok(()),
             Err(error) if error.kind() == ErrorKind::NotFound => return Ok(()),
-            Err(error) => return Err(self.report_system(path, "Write", Some(error.kind()))),
+            Err(error) => return Err(self.report_system(path, Lack::Write, Some(error.kind()))),
         }
         match self.open_object(path) {
             Ok(Some(object)) => self.keep(path, object),
             Ok(None) => Ok(()),
-            Err(error) => Err(self.report_system(path, "Read", Some(error.kind()))),
+            Err(error) => Err(self.report_system(path, Lack::Read, Some(error.kind()))),
         }
     }
 
@@ -60,7 +60,7 @@ impl<'a> HostConsole<'a> {
         match self.new_copy(path) {
             Ok((kept, copy)) => self.fill_copy(path, object, &kept, copy),
             Err(CopyFault::Memory) => Err(self.report_memory()),
-            Err(CopyFault::System(kind)) => Err(self.report_system(path, "Write", Some(kind))),
+            Err(CopyFault::System(kind)) => Err(self.report_system(path, Lack::Write, Some(kind))),
             Err(CopyFault::At(kept, kind)) => Err(self.report_unkept(path, &kept, kind)),
         }
     }
@@ -117,7 +117,7 @@ impl<'a> HostConsole<'a> {
             Err(fault) => {
                 let _ = fs::remove_file(self.rt, kept);
                 match fault {
-                    Uncopied::Read(kind) => Err(self.report_system(path, "Read", Some(kind))),
+                    Uncopied::Read(kind) => Err(self.report_system(path, Lack::Read, Some(kind))),
                     Uncopied::Write(kind) => Err(self.report_unkept(path, kept, kind)),
                 }
             }
@@ -128,7 +128,7 @@ impl<'a> HostConsole<'a> {
     fn report_unkept(&mut self, path: &str, kept: &str, kind: ErrorKind) -> Reported
         ensures { self.new.notes.journal ≡ and_reported self.old.notes.journal }
     {
-        let reported = self.report_system(kept, "Write", Some(kind));
+        let reported = self.report_system(kept, Lack::Write, Some(kind));
         self.explain(format_args!("{path} is no library, and was to be kept under that name"));
         reported
     }

@@ -14,7 +14,7 @@ use crate::host::{HostConsole, is_no_path};
 use crate::notes::Note;
 use crate::path_parts::folder_and_name;
 use crate::size_limit::is_past_limit;
-use plm80_console::{Console, NewFile, Reported};
+use plm80_console::{Console, Lack, NewFile, Reported};
 use std::alloc::AllocError;
 use std::fs::{File, Metadata, OpenOptions};
 use std::io::{ErrorKind, Write};
@@ -115,7 +115,7 @@ impl<'a> HostConsole<'a> {
     {
         if is_no_path(file.path) {
             self.note(&Note::Unwritten(file.path, false));
-            return Err(self.report_no_path(file.path, "Write"));
+            return Err(self.report_no_path(file.path, Lack::Write));
         }
         match self.try_draft(file) {
             Ok(draft) => Ok(draft),
@@ -132,7 +132,7 @@ impl<'a> HostConsole<'a> {
     {
         match fault {
             DraftFault::Memory => self.report_memory(),
-            DraftFault::System(kind) => self.report_system(path, "Write", Some(kind)),
+            DraftFault::System(kind) => self.report_system(path, Lack::Write, Some(kind)),
         }
     }
 
@@ -163,7 +163,7 @@ impl<'a> HostConsole<'a> {
                     return self.write_in_place(file);
                 }
                 self.note(&Note::Unwritten(file.path, false));
-                Err(self.report_system(file.path, "Write", Some(error.kind())))
+                Err(self.report_system(file.path, Lack::Write, Some(error.kind())))
             }
         }
     }
@@ -177,7 +177,7 @@ impl<'a> HostConsole<'a> {
             Ok(()) => Ok(()),
             Err(error) => {
                 self.note(&Note::Unwritten(file.path, true));
-                Err(self.report_system(file.path, "Write", Some(error.kind())))
+                Err(self.report_system(file.path, Lack::Write, Some(error.kind())))
             }
         }
     }

@@ -90,8 +90,8 @@ pub data ShowsRest (image : Located) (publics : List Public) (refusal : Refusal)
   behind : (rest : List ℕ) → list_any (is_of refusal) shown ≡ false → ShowsRefusal image publics refusal rest → further ≡ 1
       → text ≡ before ++ rest → ShowsRest image publics refusal shown further before text
 
--- refusals, each with what shows it; that there are more, if so; the verifier's refusal, if it is none of these; how many there are; and
--- behind them those that are reached on conditions, with these
+-- refusals, each with what shows it; that there are more, if a search says so; the verifier's refusal, if it is none of these; how many are
+-- shown; and behind them those that are reached on conditions, with these
 pub record ShowsAll (image : Located) (publics : List Public) (refusal : Refusal) (text : List ℕ) : Type 0 where
   pub shown : List ShownRefusal
   pub are_all : Bool

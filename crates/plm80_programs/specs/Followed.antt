@@ -22,7 +22,8 @@ use Rattle.plm80_programs.specs.Reached.{ShowsRefusals}
 -- states stand
 pub record IsFollowedCode (image : Located) (code : FollowedCode) : Type 0 where
   pub is_set : Bool
-  pub promise : PromiseOf false image (is_quiet image.regions []) is_set code.table.ways.items code.table.listed code.table.bytes
+  pub promise : PromiseOf false image (is_quiet image.regions []) is_set (places_of code.table []) code.table.ways.items
+      code.table.listed code.table.bytes
   pub reached : AreFollowed image (places_of code.table []) code.reached.items
 
 -- what is printed of an image that is refused: the code that is followed, with status 0, or what walks reach, with status 1

@@ -1,6 +1,6 @@
 -- What `follow` prints of an image. (The lines of a program that is followed are those of the crates below; that where a search stopped is
 -- printed alone, with status 1, is this project's own.)
-use Rattle.std.specs.Prelude.{◌≡◌, ℕ, Bool, true, false, List, [], ◌∷◌, ◌++◌, Option, None, Some, All, codes, length, map, not}
+use Rattle.std.specs.Prelude.{◌≡◌, ◌≢◌, ℕ, Bool, true, false, List, [], ◌∷◌, ◌++◌, Option, None, Some, All, codes, length, map, not}
 use Rattle.text80.specs.Digits.{word_text}
 use Rattle.omf_model.specs.declared.symbols.Public.{Public}
 use Rattle.decode80.specs.declared.fetching.Fetched.{Fetched}
@@ -54,20 +54,30 @@ reason_words Unfit = codes "UNFIT"
 abbrev pub stopped_line : (at : ℕ) → StopReason → List ℕ
 stopped_line at reason = codes "STOPPED " ++ (word_text at ++ 32 ∷ (reason_words reason ++ 10 ∷ []))
 
--- a table that is found keeps its promise: on every board whose devices, and whose handlers if the program is interrupted, leave the quiet addresses
--- as they are
+-- a table keeps its promise: on every board whose devices, and whose handlers if the program is interrupted, leave the quiet addresses as they are
+abbrev pub KeepsPromise : (interrupted : Bool) → (quiet : List Range) → Located → Table → (is_set : Bool) → Type 0
+KeepsPromise interrupted quiet image table is_set =
+    PromiseOf interrupted image (is_quiet image.regions quiet) is_set (places_of table []) table.ways.items table.listed table.bytes
+
+-- one that is found does
 abbrev pub IsFollowedBy : (interrupted : Bool) → (quiet : List Range) → Located → Followed → Type 0
-IsFollowedBy interrupted quiet image (By table is_set) = PromiseOf interrupted image (is_quiet image.regions quiet) is_set table.ways.items table.listed table.bytes
+IsFollowedBy interrupted quiet image (By table is_set) = KeepsPromise interrupted quiet image table is_set
 IsFollowedBy interrupted quiet image (Stopped stop) = Unit {0}
 
--- and with tables of its handlers, on every live machine with them: they write no data but that which is said
+-- and with tables of its handlers, on every live machine with these: they write no data but that which is said, and have no more bytes of stack
+abbrev pub KeepsWith : (quiet : List Range) → Located → LiveTables → (handlers : List ℕ) → (most : ℕ) → Type 0
+KeepsWith quiet image found handlers most =
+    PromiseOfLive image (is_quiet image.regions quiet) found.is_set handlers (places_of found.table found.handlers.items) found.table.ways.items
+    found.table.listed found.table.bytes (handler_bounds image.regions found.writes.items most found.handlers.items)
+
+-- with all of them, and with each alone, which has no more than its own table has
 abbrev pub KeepsLivePromise : (quiet : List Range) → Located → LiveTables → Type 0
-KeepsLivePromise quiet image found = PromiseOfLive image (is_quiet image.regions quiet) found.is_set (map (λ handler. handler.at) found.handlers.items) found.table.ways.items found.table.listed found.table.bytes
-    (handler_bounds image.regions found.writes.items found.most found.handlers.items)
+KeepsLivePromise quiet image found = KeepsWith quiet image found (map (λ handler. handler.at) found.handlers.items) found.most
+    × All (λ handler. KeepsWith quiet image found (handler.at ∷ []) handler.table.bytes) found.handlers.items
 
 abbrev pub IsFollowedAllBy : (interrupted : Bool) → (handlers : List ℕ) → (quiet : List Range) → Located → FollowedAll → Type 0
-IsFollowedAllBy interrupted handlers quiet image (Alone table is_set) = (handlers ≡ []) × PromiseOf interrupted image (is_quiet image.regions quiet) is_set table.ways.items table.listed table.bytes
-IsFollowedAllBy interrupted handlers quiet image (Live found) = (map (λ handler. handler.at) found.handlers.items ≡ handlers) × KeepsLivePromise quiet image found
+IsFollowedAllBy interrupted handlers quiet image (Alone table is_set) = (handlers ≡ []) × KeepsPromise interrupted quiet image table is_set
+IsFollowedAllBy interrupted handlers quiet image (Live found) = (handlers ≢ []) × ((map (λ handler. handler.at) found.handlers.items ≡ handlers) × KeepsLivePromise quiet image found)
 IsFollowedAllBy interrupted handlers quiet image (StoppedAll stop) = Unit {0}
 
 -- the code to which a program may come that a table follows, if it is listed
@@ -85,9 +95,9 @@ pub record PrintsTable (first : List ℕ) (quiet : List Range) (lists : Bool) (i
 
 -- The lines of a program that is followed are printed only if its promise is kept; of where a search stopped nothing is promised.
 pub data SaysFollowed (quiet : List Range) (interrupted : Bool) (handlers : List ℕ) (lists : Bool) (image : Located) (publics : List Public) (answer : AnswerValue) : Type 0 where
-  followed : (table : Table) (is_set : Bool) → handlers ≡ [] → PromiseOf interrupted image (is_quiet image.regions quiet) is_set table.ways.items table.listed table.bytes →
+  followed : (table : Table) (is_set : Bool) → handlers ≡ [] → KeepsPromise interrupted quiet image table is_set →
       PrintsTable (bounds_lines interrupted (length table.states.items) table.bytes image.regions.stack.length) quiet lists image publics table [] is_set answer → SaysFollowed quiet interrupted handlers lists image publics answer
-  live : (found : LiveTables) → map (λ handler. handler.at) found.handlers.items ≡ handlers → KeepsLivePromise quiet image found →
+  live : (found : LiveTables) → handlers ≢ [] → map (λ handler. handler.at) found.handlers.items ≡ handlers → KeepsLivePromise quiet image found →
       PrintsTable (named_text image.regions.code publics (codes "HANDLER ") (live_lines found.handlers.items found.writes.items (length found.table.states.items) found.table.bytes image.regions.stack.length found.most)) quiet lists image publics found.table found.handlers.items found.is_set answer →
       SaysFollowed quiet interrupted handlers lists image publics answer
   stopped : (at : ℕ) (reason : StopReason) →

@@ -48,7 +48,7 @@ pub data AnswersReach (Answers : Voucher → AnswerValue → Type 0) (Shows : Un
 abbrev pub count_words : Unproved → List ℕ
 count_words unproved = codes "NOT PROVED REFUSALS " ++ (decimal (length unproved.refusals.items) ++ 10 ∷ [])
 
--- the lines before what walks reach: the refusals; that not all was followed, if so; and the conditions
+-- the lines before what walks reach: the refusals; that not all was followed, if the search says so; and the conditions
 abbrev pub head_lines : Located → List Public → Unproved → List ℕ
 head_lines image publics unproved =
     count_words unproved ++ (flat_map (named_refusal_line image.regions.code publics) unproved.refusals.items

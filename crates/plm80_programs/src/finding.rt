@@ -1,6 +1,6 @@
 //! Tables that follow a program and its handlers: an untrusted search finds them, and a check keeps only those that fit.
 
-ghost use Rattle.std.specs.Prelude.{◌≡◌, IfOk, [], map, true};
+ghost use Rattle.std.specs.Prelude.{◌≡◌, ◌≢◌, IfOk, [], map, true};
 ghost use Rattle.plm80_programs.specs.Following.{IsFollowedAllBy, IsFollowedBy, KeepsLivePromise};
 
 use crate::follow::Asked;
@@ -92,6 +92,7 @@ fn with_handlers(
     is_set: bool,
     budget: Budget,
 ) -> Result<FollowedAll, AllocError>
+    requires { asked.handlers.now ≢ [] }
     ensures { IfOk result (IsFollowedAllBy asked.entry.interrupted asked.entry.handlers.now asked.entry.quiet.now image.now) }
 {
     let mut budget = budget;
@@ -111,7 +112,8 @@ fn with_places(
     handlers: Vec<Handler>,
     budget: Budget,
 ) -> Result<FollowedAll, AllocError>
-    requires { map (λ handler. handler.at) handlers.items ≡ asked.handlers.now }
+    requires some { asked.handlers.now ≢ [] }
+    requires addresses { map (λ handler. handler.at) handlers.items ≡ asked.handlers.now }
     ensures { IfOk result (IsFollowedAllBy asked.entry.interrupted asked.entry.handlers.now asked.entry.quiet.now image.now) }
 {
     let places = places_anew(alloc, image, &handlers)?;
@@ -155,7 +157,8 @@ fn with_tables(
     is_set: bool,
     handlers: Vec<Handler>,
 ) -> Result<FollowedAll, AllocError>
-    requires { map (λ handler. handler.at) handlers.items ≡ asked.handlers.now }
+    requires some { asked.handlers.now ≢ [] }
+    requires addresses { map (λ handler. handler.at) handlers.items ≡ asked.handlers.now }
     ensures { IfOk result (IsFollowedAllBy asked.entry.interrupted asked.entry.handlers.now asked.entry.quiet.now image.now) }
 {
     let most = handlers

@@ -20,7 +20,7 @@ use loader80::TEXT_LIMIT;
 use loader80_text::LengthFault;
 use loader80_trace::TraceFault;
 use plm80_console::laws::faults_follow_reading;
-use plm80_console::{Answer, Argument, Console, Kind, Reported, Syntax, argument_text};
+use plm80_console::{Answer, Argument, Console, Kind, Lack, Reported, Syntax, argument_text};
 use plm80_files::{IMAGE, REGIONS};
 use plm80_names::{NamedFiles, report_lines};
 use std::alloc::{AllocError, Global};
@@ -280,7 +280,7 @@ fn report_regions_fault<C: Console>(console: &mut C, path: &str, fault: AddingFa
     ensures { C.journal console.new ≡ and_reported (C.journal console.old) }
 {
     match fault {
-        AddingFault::TooLong => console.report_file(path, "TooLong"),
+        AddingFault::TooLong => console.report_file(path, Lack::TooLong),
         AddingFault::Regions(RegionsFault::Memory) => console.report_memory(),
         AddingFault::Regions(fault) => console.report_file(path, fault),
     }

@@ -21,8 +21,8 @@ use loader80::TEXT_LIMIT;
 use loader80_text::LengthFault;
 use plm80_boards::{BOARD, GivenBoard, board_path};
 use plm80_console::{
-    Answer, Argument, Console, Kind, RangeTexts, Reported, Syntax, argument_text, argument_values,
-    explain_board, words_of,
+    Answer, Argument, Console, Kind, Lack, RangeTexts, Reported, Syntax, argument_text,
+    argument_values, explain_board, words_of,
 };
 use plm80_files::{IMAGE, image_of};
 use std::alloc::{AllocError, Global};
@@ -290,7 +290,7 @@ fn report_advice_fault<C: Console>(console: &mut C, fault: AdviceFault) -> Repor
     ensures { Blames (IsUnfit fault) (C.journal console.old) (C.journal console.new) }
 {
     match fault {
-        AdviceFault::TooLong => console.report(LengthFault::TooLong),
+        AdviceFault::TooLong => console.report(Lack::TooLong),
         AdviceFault::Unfit(fault) => {
             let reported = console.blame(fault);
             explain_unfit(console, fault);

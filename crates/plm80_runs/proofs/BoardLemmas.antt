@@ -1,7 +1,7 @@
 -- Answers that are given to a board, an image and its regions that were read.
 use Rattle.plm80_runs.proofs.Names.{◌≡◌, ◌∙◌, ap, arith, ℕ, true, List, [], ◌∷◌, Option, None, Some, Result, Ok, Err, IfOk, IfErr, IsOkAnd, refl, Public, Located}
 use Rattle.plm80_runs.proofs.Names.{AnswerValue, Appends, Appends-trans, AppendsFront, GaveUp, Gives, GivesUp, IsAnswered, IsGiven}
-use Rattle.plm80_runs.proofs.Names.{IsGivenUp, prints, Journal, file_value, FileValue, IfErr-weaker, Bor, ◌++◌, drop, subst, sym}
+use Rattle.plm80_runs.proofs.Names.{IsGivenUp, prints, Journal, and_reported, file_value, FileValue, IfErr-weaker, Bor, ◌++◌, drop, subst, sym}
 use Rattle.plm80_runs.proofs.Names.{IsRefusal, LeavesFront, Limits, Span}
 use Rattle.std.proofs.Common.{inr}
 use Rattle.board80.specs.declared.line.Line.{Line}
@@ -25,15 +25,38 @@ use Rattle.plm80_names.specs.VerdictLaws.{no_program, program_answered, program_
 use Rattle.plm80_runs.specs.declared.board_files.BoardFiles.{BoardFiles}
 use Rattle.plm80_runs.specs.declared.on_board.Ran.{Ran}
 use Rattle.plm80_runs.specs.declared.runnable.Runnable.{Runnable}
-use Rattle.plm80_runs.specs.OnBoards.{AnswersBoard, AnswersRunnable, BeginsTrace, HaveNoBoardProgram, IfGiven, IsBoardProgramRead}
+use Rattle.plm80_runs.specs.OnBoards.{AnswersBoard, AnswersRunOnBoard, AnswersRunnable, BeginsTrace, HaveNoBoardProgram, IfGiven, IsBoardProgramRead}
 use Rattle.plm80_runs.specs.OnBoards.{IsRunnable, TracesLines, board_program_paths, board_trace_ending, first_line, image_of}
 use Rattle.plm80_runs.specs.OnBoards.AnswersRunnable.{refused, runs}
+
+module _ (Done Part : Runnable → AnswerValue → Type 0) (image : Located) (publics : List Public) (old new : Journal) where
+  -- of a program that runs, what is answered of its run
+  runnable_answered : {E : Type 0} (program : Runnable) → IsRunnable image publics program → (r : Result ℕ E)
+      → IfOk r (IsAnswered (Done program) old new) → IfErr r (λ _. IsGivenUp (Part program) old new)
+      → IfOk r (IsAnswered (AnswersRunnable Done image publics) old new) × IfErr r (λ _. IsGivenUp (AnswersRunnable Part image publics) old new)
+  runnable_answered {E = E} program is (Ok status) gave up = (
+    (answered_of {E = E} (Done program) (AnswersRunnable Done image publics) (λ answer done. runs program is done) old new (Ok status) (gave, tt)).0,
+    tt,
+  )
+  runnable_answered {E = E} program is (Err e) gave up = (
+    tt,
+    (answered_of {E = E} (Part program) (AnswersRunnable Part image publics) (λ answer done. runs program is done) old new (Err e) (tt, up)).1,
+  )
+
+  -- of another one, its refusal
+  refused_answered : {E : Type 0} (line : List ℕ) (answer : AnswerValue) (r : Result ℕ E) → IsRefusal image publics line → answer ≡ prints line 1
+      → IfOk r (IsGiven answer old new) → IfErr r (λ _. GaveUp answer old new)
+      → IfOk r (IsAnswered (AnswersRunnable Done image publics) old new) × IfErr r (λ _. IsGivenUp (AnswersRunnable Part image publics) old new)
+  refused_answered line answer r is answer_is gave up = (
+    (given_or_given_up (AnswersRunnable Done image publics) answer old new r (refused line is answer_is) gave up).0,
+    (given_or_given_up (AnswersRunnable Part image publics) answer old new r (refused line is answer_is) gave up).1,
+  )
 
 module _ {paths : BoardFiles} {old between : Journal} {board : List Line} {image : Located} {publics : List Public}
     (read : IsBoardProgramRead paths old between board image publics) (new : Journal) where
   module _ (Done Part : List Line → Located → List Public → AnswerValue → Type 0) where
     -- what is answered of them, or given up
-    pub board_answers : {E : Type 0} (r : Result ℕ E) → IfOk r (IsAnswered (Done board image publics) between new)
+    board_answers : {E : Type 0} (r : Result ℕ E) → IfOk r (IsAnswered (Done board image publics) between new)
         → IfErr r (λ _. IsGivenUp (Part board image publics) between new)
         → IfOk r (Gives (AnswersBoard Done paths) (board_program_paths paths) old new)
         × IfErr r (λ _. GivesUp (AnswersBoard Part paths) (board_program_paths paths) old new)
@@ -50,28 +73,33 @@ module _ {paths : BoardFiles} {old between : Journal} {board : List Line} {image
           tt (program_given_up read.program new (IfGiven Part (Some board)) {E = E} (Err e) up)).1,
     )
 
-module _ (Done Part : Runnable → AnswerValue → Type 0) (image : Located) (publics : List Public) (old new : Journal) where
-  -- of a program that runs, what is answered of its run
-  pub runnable_answered : {E : Type 0} (program : Runnable) → IsRunnable image publics program → (r : Result ℕ E)
-      → IfOk r (IsAnswered (Done program) old new) → IfErr r (λ _. IsGivenUp (Part program) old new)
-      → IfOk r (IsAnswered (AnswersRunnable Done image publics) old new) × IfErr r (λ _. IsGivenUp (AnswersRunnable Part image publics) old new)
-  runnable_answered {E = E} program is (Ok status) gave up = (
-    (answered_of {E = E} (Done program) (AnswersRunnable Done image publics) (λ answer done. runs program is done) old new (Ok status) (gave, tt)).0,
-    tt,
-  )
-  runnable_answered {E = E} program is (Err e) gave up = (
-    tt,
-    (answered_of {E = E} (Part program) (AnswersRunnable Part image publics) (λ answer done. runs program is done) old new (Err e) (tt, up)).1,
-  )
+  module _ (Done Part : List Line → List Public → Runnable → AnswerValue → Type 0) where
+    -- what is answered of a run on the board, or given up
+    run_answers : {E : Type 0} (r : Result ℕ E) → IfOk r (IsAnswered (AnswersRunnable (Done board publics) image publics) between new)
+        → IfErr r (λ _. IsGivenUp (AnswersRunnable (Part board publics) image publics) between new)
+        → IfOk r (Gives (AnswersRunOnBoard Done paths) (board_program_paths paths) old new)
+        × IfErr r (λ _. GivesUp (AnswersRunOnBoard Part paths) (board_program_paths paths) old new)
+    run_answers = board_answers (λ lines i names. AnswersRunnable (Done lines names) i names) (λ lines i names. AnswersRunnable (Part lines names) i names)
 
-  -- of another one, its refusal
-  pub refused_answered : {E : Type 0} (line : List ℕ) (answer : AnswerValue) (r : Result ℕ E) → IsRefusal image publics line → answer ≡ prints line 1
-      → IfOk r (IsGiven answer old new) → IfErr r (λ _. GaveUp answer old new)
-      → IfOk r (IsAnswered (AnswersRunnable Done image publics) old new) × IfErr r (λ _. IsGivenUp (AnswersRunnable Part image publics) old new)
-  refused_answered line answer r is answer_is gave up = (
-    (given_or_given_up (AnswersRunnable Done image publics) answer old new r (refused line is answer_is) gave up).0,
-    (given_or_given_up (AnswersRunnable Part image publics) answer old new r (refused line is answer_is) gave up).1,
-  )
+    pub runnable_answers : {E : Type 0} (program : Runnable) → IsRunnable image publics program → (r : Result ℕ E)
+        → IfOk r (IsAnswered (Done board publics program) between new) → IfErr r (λ _. IsGivenUp (Part board publics program) between new)
+        → IfOk r (Gives (AnswersRunOnBoard Done paths) (board_program_paths paths) old new)
+        × IfErr r (λ _. GivesUp (AnswersRunOnBoard Part paths) (board_program_paths paths) old new)
+    runnable_answers program is r gave up =
+        let both = runnable_answered (Done board publics) (Part board publics) image publics between new program is r gave up in
+        run_answers r both.0 both.1
+
+    pub refused_answers : {E : Type 0} (line : List ℕ) (answer : AnswerValue) (r : Result ℕ E) → IsRefusal image publics line → answer ≡ prints line 1
+        → IfOk r (IsGiven answer between new) → IfErr r (λ _. GaveUp answer between new)
+        → IfOk r (Gives (AnswersRunOnBoard Done paths) (board_program_paths paths) old new)
+        × IfErr r (λ _. GivesUp (AnswersRunOnBoard Part paths) (board_program_paths paths) old new)
+    refused_answers line answer r is answer_is gave up =
+        let both = refused_answered (Done board publics) (Part board publics) image publics between new line answer r is answer_is gave up in
+        run_answers r both.0 both.1
+
+    -- nothing is answered if a fault is reported
+    pub no_answer : new ≡ and_reported between → GivesUp (AnswersRunOnBoard Part paths) (board_program_paths paths) old new
+    no_answer is = (run_answers {E = Unit {0}} (Err tt) tt (unmade is)).1
 
 module _ (Answers : AnswerValue → Type 0) (old new : Journal) where
   -- the answer of a run that was printed

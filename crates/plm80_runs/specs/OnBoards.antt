@@ -1,5 +1,5 @@
 -- What commands print of a program's run among the devices of a board. (This project's own.)
-use Rattle.std.specs.Prelude.{◌≡◌, ℕ, Bool, List, [], ◌∷◌, ◌++◌, Option, None, Some, true, false, codes, length}
+use Rattle.std.specs.Prelude.{◌≡◌, ℕ, Bool, List, [], ◌∷◌, ◌++◌, Option, None, Some, true, false, Contains, codes, length}
 use Rattle.std.specs.Fmt.{decimal}
 use Rattle.board80.specs.declared.line.Line.{Line}
 use Rattle.decode80.specs.declared.fetching.Fetched.{Fetched}
@@ -62,7 +62,7 @@ AnswersBoard Answers files = WithBoard (Some files.board) (λ board. AnswersProg
 
 -- a table that follows a program from SP at the stack's top, on every board, keeps its promise
 abbrev pub KeepsTable : Located → Table → Type 0
-KeepsTable image table = PromiseOf false image (is_quiet image.regions []) true table.ways.items table.listed table.bytes
+KeepsTable image table = PromiseOf false image (is_quiet image.regions []) true (places_of table []) table.ways.items table.listed table.bytes
 
 -- the verifier refuses the image, and a table follows its program and keeps its promise
 pub record IsFollowed (image : Located) (publics : List Public) (same : Located) (table : Table) : Type 0 where
@@ -93,10 +93,12 @@ abbrev pub first_line : Runnable → List ℕ
 first_line (Accepted program) = []
 first_line (Followed image table) = states_line table
 
--- a state's machine, with some open calls, is a world that keeps what is promised of a program that this table follows
+-- a state's machine, with some open calls, is a world that keeps what is promised of a program that this table follows, at one of the places where
+-- the table's states stand
 pub record StandsFollowed (image : Located) (table : Table) (s : BoardState) : Type 0 where
   pub world : World
   pub same : world.machine ≡ s.machine
+  pub stands : Contains (places_of table []) s.machine.cpu.pc
   pub keeps : KeepsFollowed image false table.bytes table.ways.items table.listed world
 
 -- what is promised of a state of a program's run

@@ -13,7 +13,7 @@ use image80::laws::text_of_regions_is_read_as_itself;
 use image80_file::laws::one_image_reading;
 use loader80::{Outcome, SessionFault, session};
 use loader80_trace::Limits;
-use plm80_console::{Console, ReadFile, Reported};
+use plm80_console::{Console, Lack, ReadFile, Reported};
 use plm80_files::{UnreadBytes, explain_image, explain_inputs, explain_regions, place_of_regions};
 use std::alloc::Global;
 use std::io::ErrorKind;
@@ -108,7 +108,9 @@ fn report_session<C: Console>(
     match (file_of_fault(texts, fault), fault) {
         (Some(file), _) => report_text(console, file, fault),
         (None, SessionFault::Write) => console.report_output(failure),
-        (None, _) => console.report(fault),
+        (None, SessionFault::Read(_)) => console.report(Lack::Read),
+        (None, SessionFault::TooLong(_)) => console.report(Lack::TooLong),
+        (None, _) => console.report_memory(),
     }
 }
 

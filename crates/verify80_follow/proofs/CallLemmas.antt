@@ -26,12 +26,12 @@ use Rattle.verify80_follow.specs.declared.{calls.Summary.Summary, followed.Follo
 use Rattle.verify80_follow.specs.InterruptedBoards.{OnInterruptedBoard, Wakes, begins, disturbed, enabled_after, executed, woken}
 use Rattle.verify80_follow.specs.Stack.{HoldsFrom, HoldsStack, bounds_of, pointer_at}
 use Rattle.verify80_follow.specs.Held.{Entry, HoldsBeside, HoldsPairHeld, HoldsSaved, count_of, no_pair}
-use Rattle.verify80_follow.specs.Follows.{FitsSummary, Follows, Goes, Has, IsBehindCall, IsWay, PassesBy, ReturnsBack, StateFollows, StateStands}
-use Rattle.verify80_follow.specs.Follows.{StepsOver, Summarizes, beside_call, called, entered_stack, is_call, is_return, stack_of}
+use Rattle.verify80_follow.specs.Follows.{FitsSummary, Follows, Goes, Has, IsBehindCall, IsWay, PassesBy, ReturnsBack, StateStands}
+use Rattle.verify80_follow.specs.Follows.{StepsOver, Summarizes, beside_call, called, entered_stack, is_call, is_return, places_among, stack_of}
 use Rattle.verify80_follow.specs.Handling.{on_stack}
 use Rattle.verify80_follow.specs.Live.{entering}
-use Rattle.verify80_follow.specs.Promise.{FollowedProgramsKeepThePromise, IsLeftOpenAt, IsReady, KeepsFollowed, KnowsWorld, PromiseOfFollowed, PromiseOfInterrupted}
-use Rattle.verify80_follow.proofs.{GroundLemmas.Ground, HeldLemmas.all_of, HeldLemmas.two_of, RelativeLemmas.summary_more}
+use Rattle.verify80_follow.specs.Promise.{FollowedProgramsKeepThePromise, IsLeftOpenAt, IsOnStack, IsReady, KeepsFollowed, KnowsWorld, PromiseOfFollowed, PromiseOfInterrupted}
+use Rattle.verify80_follow.proofs.{GroundLemmas.Ground, HeldLemmas.all_of, HeldLemmas.two_of, PlaceLemmas.inner_placed, PlaceLemmas.main_placed, RelativeLemmas.summary_more}
 use Rattle.verify80_follow.proofs.FollowLemmas.{Laws, anywhere, begun as begun_table, bounded, direct as direct_in}
 use Rattle.verify80_follow.proofs.FollowLemmas.{disturbs as disturbs_table, enters, executes_found, executes_passed}
 use Rattle.verify80_follow.proofs.FollowLemmas.{keeps as keeps_table, keeps_by, nobody, one_of, same_some, stays_inside, touches_stack, wakes_found}
@@ -172,6 +172,7 @@ module _ (laws : Laws) (grounds : (regions : Areas) → AreRegions regions → G
     pub outermost : l.inner ≡ false → l.base ≡ 0
     pub goes : All (λ s. GoesAt l s) l.table
     pub enough : l.inner ≡ true → All (λ (s : FollowedState). 2 ≤ count_of (stack_of s)) l.table
+    pub placed : All (λ s. Contains (places_among table fits.summaries) s.at) l.table
 
   abbrev pub main_level : Level
   main_level = record { table = table; most = bytes; base = 0; entered = nobody; inner = false }
@@ -180,7 +181,7 @@ module _ (laws : Laws) (grounds : (regions : Areas) → AreRegions regions → G
   inner_level p n e = record { table = p.states.items; most = p.bytes; base = n; entered = e; inner = true }
 
   main_fit : IsFit main_level
-  main_fit = record { room = omega arith; outermost = λ is. refl; goes = λ j d inside. inr (subst (λ (i : Located). Goes i (bounds_of i) interrupted quiet fits.code ways listed fits.summaries table bytes (get_or table j d)) (sym whole_part) (fits.states j d inside)); enough = λ is. cc }
+  main_fit = record { room = omega arith; outermost = λ is. refl; goes = λ j d inside. inr (subst (λ (i : Located). Goes i (bounds_of i) interrupted quiet fits.code ways listed fits.summaries table bytes (get_or table j d)) (sym whole_part) (fits.states j d inside)); enough = λ is. cc; placed = main_placed table fits.summaries }
 
   fit_of : (p : Summary) → Contains fits.summaries p → FitsSummary image interrupted quiet fits.code ways listed fits.summaries p
   fit_of p among = All-contains (λ (q : Summary). FitsSummary image interrupted quiet fits.code ways listed fits.summaries q) fits.summaries p fits.fit among
@@ -191,6 +192,7 @@ module _ (laws : Laws) (grounds : (regions : Areas) → AreRegions regions → G
     outermost = λ is. cc;
     goes = λ j d inside. by (get_or p.states.items j d) (of.states j d inside);
     enough = λ is j d inside. (of.states j d inside).enough;
+    placed = inner_placed table fits.summaries p among;
   }
     where
       of : FitsSummary image interrupted quiet fits.code ways listed fits.summaries p
@@ -610,7 +612,8 @@ module _ (laws : Laws) (grounds : (regions : Areas) → AreRegions regions → G
       declared = keeps.declared;
       returning = λ taken. whole_way (keeps.returning taken);
       jumping = λ is none. whole_way (keeps.jumping is none);
-      stack = all_of (IsJustBelow (top_of (part l.base).regions) l.most) (IsJustBelow (top_of image.regions) bytes) (stack_bytes keeps.found.instr m.cpu) deeper keeps.stack;
+      stack = all_of (IsOnStack (part l.base) l.most) (IsOnStack image bytes) (stack_bytes keeps.found.instr m.cpu)
+          (λ a it. record { in_stack = part_inside image.regions l.base a it.in_stack; below = deeper a it.below }) keeps.stack;
       halts = keeps.halts;
       goes_on = λ on inside byte small.
           let next = keeps.goes_on on (λ at. record { stores = (inside at).stores; jumps = (inside at).jumps }) byte small in
@@ -713,6 +716,10 @@ module _ (laws : Laws) (grounds : (regions : Areas) → AreRegions regions → G
   pub keeps : (set enabled : Bool) (w : World) → Knows set enabled w → KeepsFollowed image interrupted bytes ways listed w
   keeps set enabled w x = keeps_whole x.level x.fit set enabled w x.known (keeps_at x.level x.fit set enabled w x.known x.rest x.chain (goes x.level x.fit set enabled w x.known))
 
+  pub stands : (set enabled : Bool) (w : World) → Knows set enabled w → Contains (places_among table fits.summaries) w.machine.cpu.pc
+  stands set enabled w x = subst (λ n. Contains (places_among table fits.summaries) n) x.known.at
+      (one_of (λ (s : FollowedState). Contains (places_among table fits.summaries) s.at) x.level.table x.known.place x.known.state x.fit.placed x.known.there)
+
   pub ready : (set enabled : Bool) (w : World) → Knows set enabled w → interrupted ≡ true → enabled ≡ true → IsReady image bytes set w
   ready set enabled w x on may = ready_at x.level x.fit set enabled w x.known on may
 
@@ -720,14 +727,14 @@ module _ (laws : Laws) (grounds : (regions : Areas) → AreRegions regions → G
   abbrev KnowsSome : (set : Bool) → World → Type 0
   KnowsSome set w = (enabled : Bool) × Knows set enabled w
 
-  pub followed_keeps : interrupted ≡ false → PromiseOfFollowed image quiet is_set ways listed bytes
+  pub followed_keeps : interrupted ≡ false → PromiseOfFollowed image quiet is_set (places_among table fits.summaries) ways listed bytes
   followed_keeps off start pc whole code held top w set on =
-      invariant_is_kept image quiet (IsLeftOpenAt listed) start is_set KnowsSome (λ v. KeepsFollowed image false bytes ways listed v)
+      invariant_is_kept image quiet (IsLeftOpenAt listed) start is_set KnowsSome (λ v. Contains (places_among table fits.summaries) v.machine.cpu.pc × KeepsFollowed image false bytes ways listed v)
       (record {
         begun = (false, begun start pc whole code held top);
         disturbs = λ s v u x by still. (x.0, disturbs s x.0 v u x.1 by still);
         executes = λ s v u x by. (enabled_after by.found.instr x.0, executes s x.0 v u x.1 by);
-        keeps = λ s v x. subst (λ (b : Bool). KeepsFollowed image b bytes ways listed v) off (keeps s x.0 v x.1);
+        keeps = λ s v x. (stands s x.0 v x.1, subst (λ (b : Bool). KeepsFollowed image b bytes ways listed v) off (keeps s x.0 v x.1));
       }) w set on
 
   -- one that is
@@ -738,10 +745,10 @@ module _ (laws : Laws) (grounds : (regions : Areas) → AreRegions regions → G
     knows set enabled w (executed was _ may _ u _ before by is after) = subst (λ (b : Bool). Knows set b w) (sym after) (subst (λ (b : Bool). Knows b (enabled_after by.found.instr may) w) (sym is) (executes was may u w (knows was may u before) by))
     knows set enabled w (woken _ _ u _ before may by) = wakes set enabled u w (knows set enabled u before) on may by
 
-  pub interrupted_keeps : interrupted ≡ true → PromiseOfInterrupted image quiet is_set ways listed bytes
+  pub interrupted_keeps : interrupted ≡ true → PromiseOfInterrupted image quiet is_set (places_among table fits.summaries) ways listed bytes
   interrupted_keeps on start pc whole code held top w set enabled board =
       let x = knows on start pc whole code held top set enabled w board in
-      (subst (λ (b : Bool). KeepsFollowed image b bytes ways listed w) on (keeps set enabled w x), λ may. ready set enabled w x on may)
+      (stands set enabled w x, (subst (λ (b : Bool). KeepsFollowed image b bytes ways listed w) on (keeps set enabled w x), λ may. ready set enabled w x on may))
 
 pub promise : Laws → ((regions : Areas) → AreRegions regions → Ground regions) → FollowedProgramsKeepThePromise
 promise laws grounds false image quiet is_set ways listed table bytes rules quiet_data fits few = followed_keeps laws grounds image false quiet is_set ways listed table bytes rules quiet_data fits few refl

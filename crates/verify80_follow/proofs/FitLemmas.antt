@@ -1,7 +1,7 @@
 -- What a look at an address says of the instruction there.
-use Rattle.std.specs.Prelude.{◌≡◌, ℕ, Bool, true, false, List, [], ◌∷◌, zero, suc, All, Contains, length, map, ◌<◌, Option, None, Some, Result, Ok, Err, IfOk, IfSome, slice_get}
-use Rattle.std.proofs.Common.{ap, arith, get_or, sym, true≢false, ◌∙◌}
-use Rattle.std.proofs.lemmas.List.Elements.{All-contains, All-map, Contains-append_left, Contains-append_right}
+use Rattle.std.specs.Prelude.{◌≡◌, ℕ, Bool, true, false, List, [], ◌∷◌, zero, suc, All, Contains, length, map, ◌<◌, ◌≤◌, Option, None, Some, Result, Ok, Err, IfOk, IfSome, slice_get}
+use Rattle.std.proofs.Common.{ap, arith, get_or, subst, sym, true≢false, ◌∙◌}
+use Rattle.std.proofs.lemmas.List.Elements.{All-cons, All-contains, All-map, All-nil, Contains-append_left, Contains-append_right}
 use Rattle.decode80.specs.{Facts.flow, declared.fetching.Fetched.Fetched}
 use Rattle.decode80.specs.declared.flow.Flow.TheVariants.{JumpsToHl}
 use Rattle.decode80.specs.declared.instr.Instr.TheVariants.{Ei, Pchl}
@@ -11,13 +11,13 @@ use Rattle.machine80.specs.{Step.Machine, World.World}
 use Rattle.verify80_states.specs.QuietBoards.{OnQuietBoard, begins, disturbed, executed as executed_quiet}
 use Rattle.verify80.specs.{Looking.is_declared, Looking.look_at, Looking.stores_in_data}
 use Rattle.verify80.specs.LookLaws.{IsEiAlone, IsPchlUndeclared, LooksAnswerFaultsThatHold, LooksFindWhatIsAdmitted, fetch_at}
-use Rattle.verify80_follow.specs.declared.{followed.FollowedState.FollowedState, followed.Listed.Listed, followed.Way.Way, handling.Handler.Handler}
+use Rattle.verify80_follow.specs.declared.{fit.Table.Table, followed.FollowedState.FollowedState, followed.Listed.Listed, followed.Way.Way, handling.Handler.Handler}
 use Rattle.verify80_follow.specs.{Follows.IsExecuted, Promise.IsLeftOpenAt, Promise.PromiseOf}
-use Rattle.verify80_follow.specs.Handling.{HandlerTable}
+use Rattle.verify80_follow.specs.{Handling.HandlesAmong, Handling.IsHandled, Reaching.places_of}
 use Rattle.verify80_follow.specs.Live.{Enable, HandlerBounds, KeepsLive, OnLiveBoard, PromiseOfLive, begins as begins_live}
 use Rattle.verify80_follow.specs.Live.{disturbed as disturbed_live, executed as executed_live, handler_ways, interrupted as interrupted_live}
 use Rattle.verify80_follow.specs.InterruptedBoards.{OnInterruptedBoard, begins as begins_interrupted, disturbed as disturbed_interrupted, executed as executed_interrupted, woken}
-use Rattle.verify80_follow.proofs.FollowLemmas.{is_pchl}
+use Rattle.verify80_follow.proofs.{FollowLemmas.is_pchl, PlaceLemmas.handler_placed}
 
 -- what a value says, if there is one
 pub some_maps : {A : Type 0} (o : Option A) (P Q : A → Type 0) → ((x : A) → P x → Q x) → IfSome o P → IfSome o Q
@@ -84,11 +84,11 @@ quieter_interrupted regions quiet more listed start began inside set enabled w (
     executed_interrupted before set may enabled v w (quieter_interrupted regions quiet more listed start began inside before may v on) by is after
 quieter_interrupted regions quiet more listed start began inside set enabled w (woken _ _ v _ on may by) = woken set enabled v w (quieter_interrupted regions quiet more listed start began inside set enabled v on) may by
 
-pub promise_of_more : (interrupted : Bool) (image : Located) (quiet more : ℕ → Bool) (is_set : Bool) (ways : List Way) (listed : Listed) (bytes : ℕ) → ((at : ℕ) → quiet at ≡ true → more at ≡ true) →
-    PromiseOf interrupted image quiet is_set ways listed bytes → PromiseOf interrupted image more is_set ways listed bytes
-promise_of_more false image quiet more is_set ways listed bytes inside promise = λ start pc whole code holds top w set on.
+pub promise_of_more : (interrupted : Bool) (image : Located) (quiet more : ℕ → Bool) (is_set : Bool) (places : List ℕ) (ways : List Way) (listed : Listed) (bytes : ℕ) → ((at : ℕ) → quiet at ≡ true → more at ≡ true) →
+    PromiseOf interrupted image quiet is_set places ways listed bytes → PromiseOf interrupted image more is_set places ways listed bytes
+promise_of_more false image quiet more is_set places ways listed bytes inside promise = λ start pc whole code holds top w set on.
     promise start pc whole code holds top w set (quieter image.regions quiet more (IsLeftOpenAt listed) start is_set inside set w on)
-promise_of_more true image quiet more is_set ways listed bytes inside promise = λ start pc whole code holds top w set enabled on.
+promise_of_more true image quiet more is_set places ways listed bytes inside promise = λ start pc whole code holds top w set enabled on.
     promise start pc whole code holds top w set enabled (quieter_interrupted image.regions quiet more (IsLeftOpenAt listed) start is_set inside set enabled w on)
 
 -- and so is a live machine
@@ -103,12 +103,13 @@ quieter_live regions quiet more handlers listed start began inside set flag unde
     interrupted_live set was flag under v w place handler (quieter_live regions quiet more handlers listed start began inside set was None v on) takes has is after left
 
 -- handlers write more data, if more is said to be written
-pub live_of_more : (image : Located) (quiet more : ℕ → Bool) (is_set : Bool) (handlers : List ℕ) (ways : List Way) (listed : Listed) (main : ℕ) (inner : HandlerBounds) (written : ℕ → Bool) → ((at : ℕ) → quiet at ≡ true → more at ≡ true) →
-    ((at : ℕ) → inner.written at ≡ true → written at ≡ true) → PromiseOfLive image quiet is_set handlers ways listed main inner → PromiseOfLive image more is_set handlers ways listed main (record inner { written = written })
-live_of_more image quiet more is_set handlers ways listed main inner written inside wider promise start pc whole code holds top w set flag under on =
-    keeps_wider under (promise start pc whole code holds top w set flag under (quieter_live image.regions quiet more handlers (IsLeftOpenAt listed) start is_set inside set flag under w on)) where
-      keeps_wider : (under : Option World) → KeepsLive image main inner ways listed flag under w → KeepsLive image main (record inner { written = written }) ways listed flag under w
-      keeps_wider None keeps = keeps
+pub live_of_more : (image : Located) (quiet more : ℕ → Bool) (is_set : Bool) (handlers places : List ℕ) (ways : List Way) (listed : Listed) (main : ℕ) (inner : HandlerBounds) (written : ℕ → Bool) → ((at : ℕ) → quiet at ≡ true → more at ≡ true) →
+    ((at : ℕ) → inner.written at ≡ true → written at ≡ true) → PromiseOfLive image quiet is_set handlers places ways listed main inner → PromiseOfLive image more is_set handlers places ways listed main (record inner { written = written })
+live_of_more image quiet more is_set handlers places ways listed main inner written inside wider promise start pc whole code holds top w set flag under on =
+    let kept = promise start pc whole code holds top w set flag under (quieter_live image.regions quiet more handlers (IsLeftOpenAt listed) start is_set inside set flag under w on) in
+    (kept.0, keeps_wider under kept.1) where
+      keeps_wider : (under : Option World) → KeepsLive image handlers main inner ways listed flag under w → KeepsLive image handlers main (record inner { written = written }) ways listed flag under w
+      keeps_wider None keeps = record { keeps = keeps.keeps; pushes = keeps.pushes }
       keeps_wider (Some u) keeps = record {
         found = keeps.found;
         anywhere = keeps.anywhere;
@@ -121,6 +122,8 @@ live_of_more image quiet more is_set handlers ways listed main inner written ins
         declared = keeps.declared;
         stack = keeps.stack;
         alone = keeps.alone;
+        lies = keeps.lies;
+        pushed = keeps.pushed;
         anew = keeps.anew;
         gives_back = keeps.gives_back;
         goes_on = keeps.goes_on;
@@ -132,20 +135,31 @@ ways_among [] k d way inside there = absurd (omega (arith, inside))
 ways_among (h ∷ hs) zero d way inside there = Contains-append_left h.table.ways.items (handler_ways hs) way there
 ways_among (h ∷ hs) (suc k) d way inside there = Contains-append_right h.table.ways.items (handler_ways hs) way (ways_among hs k d way (omega (arith, inside)) there)
 
--- each handler is followed, with its ways among those of all
-pub each_handled : (image : Located) (main : List FollowedState) (written quiet : ℕ → Bool) (listed : Listed) (most : ℕ) (handlers : List Handler) → All (λ h. HandlerTable image main written quiet h.table.ways.items listed most h.at) handlers →
-    (at : ℕ) → Contains (map (λ h. h.at) handlers) at → HandlerTable image main written quiet (handler_ways handlers) listed most at
-each_handled image main written quiet listed most handlers each at there =
-    All-contains (HandlerTable image main written quiet (handler_ways handlers) listed most) (map (λ (h : Handler). h.at) handlers) at
-    (All-map (HandlerTable image main written quiet (handler_ways handlers) listed most) (λ (h : Handler). h.at) handlers (λ k d inside. more k d inside (each k d inside))) there where
-      more : (k : ℕ) (d : Handler) → k < length handlers → HandlerTable image main written quiet (get_or handlers k d).table.ways.items listed most (get_or handlers k d).at → HandlerTable image main written quiet (handler_ways handlers) listed most (get_or handlers k d).at
-      more k d inside table = record {
-        table = table.table;
-        ways = table.ways;
-        bytes = table.bytes;
-        bounds = table.bounds;
-        fits = table.fits;
-        few = table.few;
-        room = table.room;
-        among = λ way is. ways_among handlers k d way inside (table.among way is);
-      }
+-- each handler is followed, with its ways and places among those of all
+module _ (image : Located) (table : Table) (written quiet : ℕ → Bool) (most : ℕ) (handlers : List Handler) (each : All (IsHandled image table.states.items written quiet table.listed most) handlers) where
+  abbrev Among : (bytes at : ℕ) → Type 0
+  Among bytes at = HandlesAmong image table.states.items written quiet (handler_ways handlers) (places_of table handlers) table.listed bytes at
+
+  among_all : (k : ℕ) (d : Handler) → k < length handlers → (bytes : ℕ) → (get_or handlers k d).table.bytes ≤ bytes → Among bytes (get_or handlers k d).at
+  among_all k d inside bytes less = let x = each k d inside in record {
+    of = record {
+      table = x.of.table;
+      ways = x.of.ways;
+      bytes = x.of.bytes;
+      bounds = x.of.bounds;
+      fits = x.of.fits;
+      few = let few = x.of.few in omega (arith, few, less);
+      room = let room = x.of.room in omega (arith, room, less);
+      among = λ way is. ways_among handlers k d way inside (x.of.among way is);
+    };
+    placed = subst (λ (states : List FollowedState). All (λ s. Contains (places_of table handlers) s.at) states) (sym x.states) (handler_placed table handlers k d inside);
+  }
+
+  pub each_handled : (at : ℕ) → Contains (map (λ h. h.at) handlers) at → Among most at
+  each_handled at there = All-contains (Among most) (map (λ (h : Handler). h.at) handlers) at
+      (All-map (Among most) (λ (h : Handler). h.at) handlers (λ k d inside. among_all k d inside most (each k d inside).few)) there
+
+  -- and alone, with no more bytes than it has
+  pub handled_alone : All (λ h. (at : ℕ) → Contains (h.at ∷ []) at → Among h.table.bytes at) handlers
+  handled_alone = λ k d inside at there. let h = get_or handlers k d in
+      All-contains (Among h.table.bytes) (h.at ∷ []) at (All-cons (Among h.table.bytes) h.at [] (among_all k d inside h.table.bytes (omega arith)) (All-nil (Among h.table.bytes))) there

@@ -18,7 +18,7 @@ use Rattle.machine80.specs.{Effects.goes_to, Effects.pointed_bytes, Effects.stac
 use Rattle.machine80.specs.{Effects.touched_by, Effects.word_in, Run.world_of, declared.cpu.Cpu.Cpu, declared.flags.Flags.Flags}
 use Rattle.machine80.specs.{ArithmeticLaws.StatusWordRoundTrip, FactsLaws.InstructionsKeepToFacts}
 use Rattle.machine80.specs.Step.{Machine, guard, leads_outside, proceeded}
-use Rattle.machine80.specs.World.{IsJustBelow, World, is_return_taken, places_after}
+use Rattle.machine80.specs.World.{World, is_return_taken, places_after}
 use Rattle.verify80.specs.Boards.{Disturbs, Executes, StaysInside, fetched_anywhere, respected_pointer, sets_sp, unguarded, LeavesProgram}
 use Rattle.verify80.specs.{LookLaws.fetch_at, Looking.declared_targets, Looking.halt_follows, Looking.is_declared, Looking.is_pchl as is_pchl_instr}
 use Rattle.decode80.specs.Spelling.{opcode}
@@ -38,7 +38,7 @@ use Rattle.verify80_follow.specs.Held.{Entry, HoldsBeside, beside_then, count_of
 use Rattle.verify80_follow.proofs.HeldLemmas.{beside_around, beside_holds, is_pushing, nothing_holds, same_beside}
 use Rattle.verify80_follow.specs.Follows.{Covers, CoversThen, FollowsBy, Has, IsWay, JumpsBy, LeadsTo, ReturnsLeft}
 use Rattle.verify80_follow.specs.Follows.{ReturnsTo, PassesBy, StateFollows, StateStands, called, first_stack, is_return, stack_of}
-use Rattle.verify80_follow.specs.Promise.{GoesToListed, IsLeftOpenAt, KeepsFollowed, KnowsWorld}
+use Rattle.verify80_follow.specs.Promise.{GoesToListed, IsLeftOpenAt, IsOnStack, KeepsFollowed, KnowsWorld}
 use Rattle.verify80_follow.proofs.{GroundLemmas.Ground, FetchLemmas.anywhere_of, FetchLemmas.fetched_here, FetchLemmas.inside_of, StackSteps.stack_holds}
 use Rattle.verify80_follow.proofs.GuardLemmas.{Touches, all_of_list, passes_guard, touched}
 use Rattle.verify80_follow.proofs.StackLemmas.{any_within, byte_at, moved_holds, on_stack, pointer_is, stays_from}
@@ -581,8 +581,8 @@ module _ (laws : Laws) (image : Located) (interrupted : Bool) (entered : Entry) 
     jumping follows is none =
         jumping_by (is_declared image.regions k.state.at) refl (subst (λ (f : Flow). FollowsBy image (bounds_of image) interrupted bytes_of_code ways table bytes k.state found f) (ap (λ (i : Instr). flow i) is) follows) (subst (λ n. targets_at image.regions n ≡ None) (sym k.at) none)
 
-    just_below : (xs : List ℕ) → All (Touches image.regions ground bytes) xs → All (λ a. IsJustBelow (top_of image.regions) bytes a) xs
-    just_below xs each = λ k d within. (each k d within).below
+    on_stack_each : (xs : List ℕ) → All (Touches image.regions ground bytes) xs → All (IsOnStack image bytes) xs
+    on_stack_each xs each = λ k d within. let it = each k d within in record { in_stack = it.there; below = it.below }
 
     touches_by : (f : Flow) → flow found.instr ≡ f → FollowsBy image (bounds_of image) interrupted bytes_of_code ways table bytes k.state found f → All (Touches image.regions ground bytes) (stack_bytes found.instr m.cpu)
     touches_by Halts is follows = untouched (stack_bytes found.instr m.cpu) (ap (λ (f : Flow). touched_by f m.cpu) is)
@@ -649,7 +649,7 @@ module _ (laws : Laws) (image : Located) (interrupted : Bool) (entered : Entry) 
       declared = declared;
       returning = λ taken. subst (λ n. IsWay image ways m.cpu.pc n) (sym (return_target (flow found.instr) found.next m.memory m.cpu taken)) (returning taken);
       jumping = jumping_here;
-      stack = just_below (stack_bytes found.instr m.cpu) touches;
+      stack = on_stack_each (stack_bytes found.instr m.cpu) touches;
       halts = halts;
       goes_on = λ on inside byte small.
           let l = goes_on found.instr byte found.next m on in

@@ -4,6 +4,7 @@ mod FetchLemmas
 mod GuardLemmas
 mod StackSteps
 mod HeldLemmas
+mod PlaceLemmas
 mod RelativeLemmas
 mod PointLemmas
 mod FollowLemmas

@@ -7,7 +7,7 @@ use Rattle.std.specs.{Result.result_ok}
 use Rattle.std.proofs.Common.{ap, arith, get_or, inl, inr, refl, subst, sym, true≢false, ◌∙◌}
 use Rattle.std.proofs.lemmas.{Bool.Decides.nat_tests}
 use Rattle.std.proofs.lemmas.List.Elements.{All-append, All-cons, All-head, All-nil, All-tail, Contains-get_or}
-use Rattle.decode80.specs.{Decoded.decoded, Facts.flow, Fetch.admitted_if_used, Fetch.ahead, Fetch.direct_bytes}
+use Rattle.decode80.specs.{Decoded.decoded, Facts.flow, Fetch.admitted_if_used, Fetch.ahead, Fetch.behind, Fetch.direct_bytes}
 use Rattle.decode80.specs.{Fetch.fetch as fetch_in, declared.fetching.FetchFault.FetchFault}
 use Rattle.decode80.specs.{declared.fetching.FetchFault.TheVariants.Outside, declared.fetching.Fetched.Fetched, declared.instr.Instr.Instr}
 use Rattle.decode80.specs.declared.instr.Instr.TheVariants.{Di, Ei, Hlt, Lxi, Pchl, Ret}
@@ -29,21 +29,21 @@ use Rattle.verify80_follow.specs.declared.{followed.FollowedState.FollowedState,
 use Rattle.verify80_follow.specs.InterruptedBoards.{Wakes, enabled_after, with_pc}
 use Rattle.verify80_follow.specs.Stack.{bounds_of, pointer_at}
 use Rattle.verify80_follow.specs.Held.{Entry, HoldsBeside, HoldsPairHeld, HoldsSaved, count_of, nothing_beside}
-use Rattle.verify80_follow.specs.Follows.{Follows, IsWay, StateFollows, StateStands, stack_of, uses_pointer, entered_stack}
-use Rattle.verify80_follow.specs.Handling.{BeginsAnew, EndsAt, GivesBack, HandlerTable, Handles, IsReturn, entered_beside, entered_pair, on_stack}
-use Rattle.verify80_follow.specs.Promise.{GoesToListed, IsLeftOpenAt, IsReady, KeepsFollowed, KnowsWorld}
-use Rattle.verify80_follow.specs.Live.{Enable, HandlerBounds, KeepsHandler, LiveMachinesKeepThePromise, OnLiveBoard, PromiseOfLive, Takes, begins, disturbed}
+use Rattle.verify80_follow.specs.Follows.{Follows, IsWay, StateFollows, StateStands, places_among, stack_of, uses_pointer, entered_stack}
+use Rattle.verify80_follow.specs.Handling.{BeginsAnew, EndsAt, GivesBack, HandlerTable, Handles, HandlesAmong, IsReturn, entered_beside, entered_pair, on_stack}
+use Rattle.verify80_follow.specs.Promise.{GoesToListed, IsLeftOpenAt, IsOnStack, IsReady, KeepsFollowed, KnowsWorld}
+use Rattle.verify80_follow.specs.Live.{Enable, HandlerBounds, IsHaltedBefore, KeepsHandler, LiesBelow, LiveMachinesKeepThePromise, OnLiveBoard, PromiseOfLive, Takes, begins, disturbed}
 use Rattle.verify80_follow.specs.Live.{enable_after, entering, executed, interrupted, is_back, may_come, off, on, passed, soon, under_after, world_after}
 use Rattle.verify80_follow.proofs.{FetchLemmas.anywhere_of, FetchLemmas.fetched_here, FetchLemmas.inside_of, GroundLemmas.Ground, RelativeLemmas.fits_more}
 use Rattle.verify80_follow.proofs.CallLemmas.{Knows as KnowsCalls, begun as begun_calls, disturbs as disturbs_calls, executes as executes_calls}
-use Rattle.verify80_follow.proofs.CallLemmas.{in_main, keeps as keeps_calls, ready as ready_calls, wakes as wakes_calls}
+use Rattle.verify80_follow.proofs.CallLemmas.{in_main, keeps as keeps_calls, ready as ready_calls, stands as stands_calls, wakes as wakes_calls}
 use Rattle.verify80_follow.proofs.PartLemmas.{into_back, into_bytes, into_stack, into_whole, off_part, off_stack, part_below, part_inside, regions_below, same_ok, stacked_within, stands_at, two_above}
 use Rattle.verify80_follow.proofs.FollowLemmas.{Laws, disturbs as disturbs_table, enters as enters_table, executes_found, goes_on}
 use Rattle.verify80_follow.proofs.FollowLemmas.{keeps as keeps_table, leaves, nobody, one_of, points, same_some, stays_inside, touches_stack}
 use Rattle.verify80_follow.proofs.HeldLemmas.{all_of, nothing_holds, stored_other, two_of}
 use Rattle.verify80_stores.specs.Opening.{pointer_span}
-use Rattle.verify80_follow.proofs.GuardLemmas.{Touches, all_of_list}
-use Rattle.verify80_follow.proofs.StackLemmas.{next_pointer, pointer_is, range_high}
+use Rattle.verify80_follow.proofs.GuardLemmas.{Touches, all_of_list, at_count}
+use Rattle.verify80_follow.proofs.StackLemmas.{next_pointer, pointer_below, pointer_is, range_high}
 
 -- flags of both boards
 flag_same : (i : Instr) (flag : Enable) → enabled_after i (may_come flag) ≡ may_come (enable_after i flag)
@@ -125,9 +125,10 @@ unfolding fetch_in
 fetched_small regions rules memory at found is =
     small_in regions.code at (front_of IsInMemory regions.code (regions.stack ∷ regions.data_ranges) rules.in_memory) (tested (in_code regions at) (admitted_if_used (in_code regions) at (decoded (slice_index memory at) (slice_index memory (ahead at 1)) (slice_index memory (ahead at 2)))) found is)
 
-module _ (laws : Laws) (grounds : (regions : Areas) → AreRegions regions → Ground regions) (image : Located) (quiet : ℕ → Bool) (is_set : Bool) (handlers : List ℕ) (ways : List Way) (listed : Listed) (main : ℕ) (inner : HandlerBounds) (rules : AreRegions image.regions)
+module _ (laws : Laws) (grounds : (regions : Areas) → AreRegions regions → Ground regions) (image : Located) (quiet : ℕ → Bool) (is_set : Bool) (handlers places : List ℕ) (ways : List Way) (listed : Listed) (main : ℕ) (inner : HandlerBounds) (rules : AreRegions image.regions)
     (quiet_data : (at : ℕ) → quiet at ≡ true → in_data image.regions at ≡ true) (loud : (at : ℕ) → quiet at ≡ true → inner.written at ≡ false) (mtable : List FollowedState) (main_fits : Follows image true quiet is_set ways listed mtable main)
-    (tables : (h : ℕ) → Contains handlers h → HandlerTable image mtable inner.written quiet inner.ways listed inner.bytes h) (room : main + inner.bytes ≤ image.regions.stack.length) where
+    (placed : (at : ℕ) → Contains (places_among mtable main_fits.summaries) at → Contains places at)
+    (tables : (h : ℕ) → Contains handlers h → HandlesAmong image mtable inner.written quiet inner.ways places listed inner.bytes h) (room : main + inner.bytes ≤ image.regions.stack.length) where
   abbrev ground : Ground image.regions
   ground = grounds image.regions rules
 
@@ -140,6 +141,10 @@ module _ (laws : Laws) (grounds : (regions : Areas) → AreRegions regions → G
   -- where the part of the stack ends
   top_is : (count : ℕ) → count ≤ image.regions.stack.length → pointer_at (bounds_of (below count)) 0 ≡ pointer_at (bounds_of image) count
   top_is count few = let ends = ground.stack_ends in omega (arith, few, ends)
+
+  below_top : (b : StackBounds) (n : ℕ) → n ≤ 65535 → pointer_at b n ≡ behind (pointer_at b 0) n
+  unfolding behind
+  below_top b n few = omega (arith, few)
 
   never_at_top : (b : StackBounds) (n : ℕ) → 1 ≤ n → n < 65536 → b.top < 65536 → pointer_at b n ≢ pointer_at b 0
   never_at_top b n some few small = λ same. absurd (omega (arith, same, some, few, small))
@@ -173,6 +178,9 @@ module _ (laws : Laws) (grounds : (regions : Areas) → AreRegions regions → G
   main_keeps : (set enabled : Bool) (w : World) → MainKnows set enabled w → KeepsFollowed image true main ways listed w
   main_keeps = keeps_calls laws grounds image true quiet is_set ways listed mtable main rules quiet_data main_fits few_main
 
+  main_stands : (set enabled : Bool) (w : World) → MainKnows set enabled w → Contains (places_among mtable main_fits.summaries) w.machine.cpu.pc
+  main_stands = stands_calls laws grounds image true quiet is_set ways listed mtable main rules quiet_data main_fits few_main
+
   main_ready : (set : Bool) (w : World) → MainKnows set true w → IsReady image main set w
   main_ready set w k = ready_calls laws grounds image true quiet is_set ways listed mtable main rules quiet_data main_fits few_main set true w k refl refl
 
@@ -186,6 +194,7 @@ module _ (laws : Laws) (grounds : (regions : Areas) → AreRegions regions → G
     record Handling (u : World) (flag : Enable) (w : World) : Type 0 where
       h : ℕ
       of : HandlerTable image mtable inner.written quiet inner.ways listed inner.bytes h
+      placed_in : All (λ s. Contains places s.at) of.table
       count : ℕ
       few : count ≤ main
       at : u.machine.cpu.sp ≡ pointer_at (bounds_of image) count
@@ -345,6 +354,7 @@ module _ (laws : Laws) (grounds : (regions : Areas) → AreRegions regions → G
           handling_then then_flag is now_then = record {
             h = x.h;
             of = x.of;
+            placed_in = x.placed_in;
             count = x.count;
             few = x.few;
             at = x.at;
@@ -449,6 +459,7 @@ module _ (laws : Laws) (grounds : (regions : Areas) → AreRegions regions → G
       disturbs_handler v by stays = subst (λ (z : World). Handling u flag z) (sym by.is) (record {
         h = x.h;
         of = x.of;
+        placed_in = x.placed_in;
         count = x.count;
         few = x.few;
         at = x.at;
@@ -490,7 +501,7 @@ module _ (laws : Laws) (grounds : (regions : Areas) → AreRegions regions → G
     -- an interrupt that comes between two instructions of the program
     module _ (u : World) (u_known : MainKnows true true u) (ready : IsReady image main true u) (u_small : u.machine.cpu.pc < 65536) (h : ℕ) (has : Contains handlers h) where
       abbrev of : HandlerTable image mtable inner.written quiet inner.ways listed inner.bytes h
-      of = tables h has
+      of = (tables h has).of
 
       abbrev n : ℕ
       n = ready.count
@@ -549,6 +560,7 @@ module _ (laws : Laws) (grounds : (regions : Areas) → AreRegions regions → G
       enters_handler = record {
         h = h;
         of = of;
+        placed_in = (tables h has).placed;
         count = n;
         few = ready.few;
         at = ready.pointer;
@@ -737,30 +749,54 @@ module _ (laws : Laws) (grounds : (regions : Areas) → AreRegions regions → G
       declared_of (inl (inr anew)) jumps some = absurd (no_pchl (Lxi Sp (top_of image.regions)) anew.sets (λ e. cc) jumps)
       declared_of (inr (fixed, fits)) jumps some = (kept u flag w x fixed fits).declared (ap (λ (f : Fetched). f.instr) (kept_found fixed fits) ∙ jumps) some
 
-      abbrev Below : ℕ → Type 0
-      Below a = IsJustBelow (top_of image.regions) (main + inner.bytes) a
+      abbrev On : ℕ → Type 0
+      On a = IsOnStack image (main + inner.bytes) a
 
-      deeper : (a : ℕ) → IsJustBelow (top_of (below x.count).regions) x.of.bytes a → Below a
+      deeper : (a : ℕ) → Touches (below x.count).regions (ground_below x.count) x.of.bytes a → On a
       deeper a it =
-          let less = it.1.0 in let at_it = it.1.1 in let few = x.few in let some = x.of.few in let ends = ground.stack_ends in
-          (it.0 + x.count, (omega (arith, less, few, some), omega (arith, at_it, ends, few, room)))
+          let less = it.below.1.0 in let at_it = it.below.1.1 in let few = x.few in let some = x.of.few in let ends = ground.stack_ends in
+          record {
+            in_stack = part_inside image.regions x.count a it.there;
+            below = (it.below.0 + x.count, (omega (arith, less, few, some), omega (arith, at_it, ends, few, room)));
+          }
 
-      below_two : (b : StackBounds) (a i n : ℕ) → a ≡ pointer_at b n → n ≡ i + 1 → n ≤ 2 → b.top < 65536 → (a + i + 1) % 65536 ≡ b.top
-      below_two b a i n is one few small = omega (arith, is, one, few, small)
+      deep : 2 ≤ x.of.bytes
+      deep = let two = (handles u flag w x).enough in let few = (handles u flag w x).few in omega (arith, two, few)
 
-      stack_of_it : Either → All Below (stack_bytes here.instr at.cpu)
-      stack_of_it (inl (inl both)) = subst (λ (i : Instr). All Below (stack_bytes i at.cpu)) (sym both.0) (two_of Below at.cpu.sp (ahead at.cpu.sp 1)
-          (deeper at.cpu.sp (1, (two_bytes, below_two (bounds_of (below x.count)) at.cpu.sp 1 2 (pointer_here u flag w x both.0 both.1) (omega arith) (omega arith) (omega arith))))
-          (deeper (ahead at.cpu.sp 1) (0, (omega (arith, two_bytes), below_two (bounds_of (below x.count)) (ahead at.cpu.sp 1) 0 1 (next_up u flag w x both.0 both.1) (omega arith) (omega arith) (omega arith))))) where
-            two_bytes : 1 < x.of.bytes
-            two_bytes = let two = (handles u flag w x).enough in let few = (handles u flag w x).few in omega (arith, two, few)
-      stack_of_it (inl (inr anew)) = subst (λ (i : Instr). All Below (stack_bytes i at.cpu)) (sym anew.sets) (All-nil Below)
-      stack_of_it (inr (fixed, fits)) = subst (λ (f : Fetched). All Below (stack_bytes f.instr at.cpu)) (kept_found fixed fits)
-          (all_of (IsJustBelow (top_of (below x.count).regions) x.of.bytes) Below (stack_bytes (kept u flag w x fixed fits).found.instr at.cpu) deeper (kept u flag w x fixed fits).stack)
+      stack_of_it : Either → All On (stack_bytes here.instr at.cpu)
+      stack_of_it (inl (inl both)) = subst (λ (i : Instr). All On (stack_bytes i at.cpu)) (sym both.0) (two_of On at.cpu.sp (ahead at.cpu.sp 1)
+          (deeper at.cpu.sp (subst (λ a. Touches (below x.count).regions (ground_below x.count) x.of.bytes a) (sym (pointer_here u flag w x both.0 both.1)) (at_count (below x.count).regions (ground_below x.count) x.of.bytes 2 (omega arith) deep (two_fit u flag w x both.0 both.1))))
+          (deeper (ahead at.cpu.sp 1) (subst (λ a. Touches (below x.count).regions (ground_below x.count) x.of.bytes a) (sym (next_up u flag w x both.0 both.1)) (at_count (below x.count).regions (ground_below x.count) x.of.bytes 1 (omega arith) (omega (arith, deep)) (let two = two_fit u flag w x both.0 both.1 in omega (arith, two))))))
+      stack_of_it (inl (inr anew)) = subst (λ (i : Instr). All On (stack_bytes i at.cpu)) (sym anew.sets) (All-nil On)
+      stack_of_it (inr (fixed, fits)) = subst (λ (f : Fetched). All On (stack_bytes f.instr at.cpu)) (sym (found_same u flag w x fixed fits))
+          (all_of (Touches (below x.count).regions (ground_below x.count) x.of.bytes) On (stack_bytes fits.stands.found.instr at.cpu) deeper (touches u flag w x fixed fits))
 
-      alone_of : (flag ≡ off) ⊎ ((flag ≡ soon) × (IsReturn image at.cpu.pc × (at.cpu.sp ≡ pointer_at (bounds_of (below x.count)) 2))) → flag ≢ on
-      alone_of (inl is_off) = λ is. cc
-      alone_of (inr is_soon) = λ is. let it = is_soon.0 in cc
+      -- no interrupt may come: interrupts are off, or let in behind the RET that is executed
+      halts_not : IsReturn image at.cpu.pc → (place : ℕ) → IsHaltedBefore w place → ⊥
+      halts_not ret place halted =
+          let fetched_ret : fetched_anywhere at.memory at.cpu.pc ≡ Some ret.found = anywhere_of image.regions at.memory at.cpu.pc ret.found (fetched_here laws.reads image at.memory at.cpu.pc ret.found x.known.code ret.fetched) in
+          let same : Hlt ≡ Ret = sym halted.halts ∙ ap (λ (f : Fetched). f.instr) (same_some halted.found ret.found (sym halted.fetched ∙ fetched_ret)) ∙ ret.returns in
+          cc
+
+      alone_of : (flag ≡ off) ⊎ ((flag ≡ soon) × (IsReturn image at.cpu.pc × (at.cpu.sp ≡ pointer_at (bounds_of (below x.count)) 2))) → (place : ℕ) → Takes flag w place → ⊥
+      alone_of (inl is_off) place (inl both) = absurd (let same : off ≡ on = sym is_off ∙ both.0 in cc)
+      alone_of (inl is_off) place (inr both) = absurd (let may = both.0 in true≢false (sym may ∙ ap may_come is_off))
+      alone_of (inr is_soon) place (inl both) = absurd (let same : soon ≡ on = sym is_soon.0 ∙ both.0 in cc)
+      alone_of (inr is_soon) place (inr both) = halts_not is_soon.1.0 place both.1
+
+      -- SP lies below where it was
+      lies_below : LiesBelow u.machine.cpu.sp inner.bytes at.cpu.sp
+      lies_below =
+          let states = handles u flag w x in
+          let some = states.few in let less = x.of.few in let fit = enough_room u flag w x in let short = ground.stack_short in
+          record {
+            count = count_of (stack_of x.known.state);
+            some = states.enough;
+            few = omega (arith, some, less);
+            is = stands_at (bounds_of (below x.count)) at.cpu.sp at.memory (stack_of x.known.state) states.enough x.known.stack
+                ∙ below_top (bounds_of (below x.count)) (count_of (stack_of x.known.state)) (omega (arith, some, fit, short))
+                ∙ ap (λ a. behind a (count_of (stack_of x.known.state))) (top_here u flag w x);
+          }
 
       anew_of : Either → sets_sp here.instr ≡ true → here.instr ≡ Lxi Sp (top_of image.regions)
       anew_of (inl (inl both)) sets = absurd (true≢false (sym sets ∙ ap sets_sp both.0))
@@ -772,7 +808,7 @@ module _ (laws : Laws) (grounds : (regions : Areas) → AreRegions regions → G
       back_of v by unset over_then (inl (inr anew)) = absurd (true≢false (sym (ap sets_sp anew.sets) ∙ unset))
       back_of v by unset over_then (inr (fixed, fits)) = absurd (not_over u flag w x fixed fits v by (grind (arith, nat_tests, over_then)))
 
-      keeps_handler : KeepsHandler image inner.written (main + inner.bytes) inner.ways listed flag u w
+      keeps_handler : KeepsHandler image main inner listed flag u w
       keeps_handler = record {
         found = here;
         anywhere = anywhere u flag w x;
@@ -785,6 +821,8 @@ module _ (laws : Laws) (grounds : (regions : Areas) → AreRegions regions → G
         declared = declared_of (handles u flag w x).goes;
         stack = stack_of_it (handles u flag w x).goes;
         alone = alone_of x.now;
+        lies = lies_below;
+        pushed = x.left.pushed;
         anew = anew_of (handles u flag w x).goes;
         gives_back = λ v by unset over_then. back_of v by unset over_then (handles u flag w x).goes;
         goes_on = λ no_halt inside byte small.
@@ -796,9 +834,41 @@ module _ (laws : Laws) (grounds : (regions : Areas) → AreRegions regions → G
             };
       }
 
-  pub live_keeps : PromiseOfLive image quiet is_set handlers ways listed main inner
-  live_keeps start pc whole code held top w set flag None board = let runs = knows start pc whole code held top set flag None w board in main_keeps set runs.enabled w runs.main_known
-  live_keeps start pc whole code held top w set flag (Some u) board = let known = knows start pc whole code held top set flag (Some u) w board in keeps_handler start pc whole code held top u flag w known.1
+    -- where the program is between interrupts, an interrupt pushes onto STACK
+    pushes_of : (set : Bool) (flag : Enable) (w : World) (runs : Runs set flag w) → (place handler : ℕ) → Takes flag w place → Contains handlers handler →
+        All (IsOnStack image (main + inner.bytes)) (behind w.machine.cpu.sp 1 ∷ behind w.machine.cpu.sp 2 ∷ [])
+    pushes_of set flag w runs place h takes has = by (main_ready set w (subst (λ (b : Bool). MainKnows set b w) (runs.more (comes_so takes)) runs.main_known)) where
+      comes_so : Takes flag w place → may_come flag ≡ true
+      comes_so (inl both) = ap may_come both.0
+      comes_so (inr both) = both.0
+
+      of : HandlerTable image mtable inner.written quiet inner.ways listed inner.bytes h
+      of = (tables h has).of
+
+      started : Handles image mtable inner.written of.bounds quiet of.fits.code of.ways listed of.table of.bytes of.fits.start.state
+      started = one_of (λ s. Handles image mtable inner.written of.bounds quiet of.fits.code of.ways listed of.table of.bytes s) of.table of.fits.start.place of.fits.start.state of.fits.states of.fits.start.there
+
+      by : IsReady image main set w → All (IsOnStack image (main + inner.bytes)) (behind w.machine.cpu.sp 1 ∷ behind w.machine.cpu.sp 2 ∷ [])
+      by ready =
+          let few = ready.few in let less = of.few in let some = started.few in let enough = started.enough in
+          let pointers = pointer_below image.regions ground ready.count (omega (arith, few, less, some, enough, room)) in
+          two_of (IsOnStack image (main + inner.bytes)) (behind w.machine.cpu.sp 1) (behind w.machine.cpu.sp 2)
+          (subst (λ a. IsOnStack image (main + inner.bytes) a) (sym (ap (λ a. behind a 1) ready.pointer ∙ pointers.0)) (on_it (ready.count + 1) (omega arith) (omega (arith, few, less, some, enough))))
+          (subst (λ a. IsOnStack image (main + inner.bytes) a) (sym (ap (λ a. behind a 2) ready.pointer ∙ pointers.1)) (on_it (ready.count + 2) (omega arith) (omega (arith, few, less, some, enough)))) where
+            on_it : (n : ℕ) → 0 < n → n ≤ main + inner.bytes → IsOnStack image (main + inner.bytes) (pointer_at (bounds_of image) n)
+            on_it n some few = let it = at_count image.regions ground (main + inner.bytes) n some few (omega (arith, few, room)) in record { in_stack = it.there; below = it.below }
+
+  pub live_keeps : PromiseOfLive image quiet is_set handlers places ways listed main inner
+  live_keeps start pc whole code held top w set flag None board =
+      let runs = knows start pc whole code held top set flag None w board in (
+        placed w.machine.cpu.pc (main_stands set runs.enabled w runs.main_known),
+        record { keeps = main_keeps set runs.enabled w runs.main_known; pushes = pushes_of start pc whole code held top set flag w runs },
+      )
+  live_keeps start pc whole code held top w set flag (Some u) board =
+      let known = knows start pc whole code held top set flag (Some u) w board in (
+        subst (λ n. Contains places n) known.1.known.at (one_of (λ (s : FollowedState). Contains places s.at) known.1.of.table known.1.known.place known.1.known.state known.1.placed_in known.1.known.there),
+        keeps_handler start pc whole code held top u flag w known.1,
+      )
 
 pub live_promise : Laws → ((regions : Areas) → AreRegions regions → Ground regions) → LiveMachinesKeepThePromise
-live_promise laws grounds image quiet is_set handlers ways listed mtable main inner rules quiet_data loud main_fits tables room = live_keeps laws grounds image quiet is_set handlers ways listed main inner rules quiet_data loud mtable main_fits tables room
+live_promise laws grounds image quiet is_set handlers places ways listed mtable main inner rules quiet_data loud main_fits placed tables room = live_keeps laws grounds image quiet is_set handlers places ways listed main inner rules quiet_data loud mtable main_fits placed tables room

@@ -1,8 +1,8 @@
 -- A table of states that follows a program: the start is in it, and wherever an instruction leads from a state, what it makes of the state is covered
 -- there. There are no procedures: a call pushes a number, and a return goes to the number that the state knows. If the program is interrupted, a HLT at
 -- which interrupts may come leads on. (This project's own.)
-use Rattle.std.specs.Prelude.{◌≡◌, ◌≤◌, ◌⊎◌, ◌+◌, ℕ, Bool, true, false, List, [], ◌∷◌, All, Any, Contains, Option, None, Some, Ok, IfSome, IsSome, length, slice_get}
-use Rattle.std.specs.Option.{option_map}
+use Rattle.std.specs.Prelude.{◌≡◌, ◌≤◌, ◌⊎◌, ◌+◌, ℕ, Bool, true, false, List, [], ◌∷◌, ◌++◌, All, Any, Contains, Option, None, Some, Ok, IfSome, IsSome, length, map, slice_get}
+use Rattle.std.specs.{List.flat_map, Option.option_map}
 use Rattle.decode80.specs.{declared.condition.Condition.Condition, declared.fetching.Fetched.Fetched, declared.flow.Flow.Flow, Facts.flow}
 use Rattle.decode80.specs.declared.flow.Flow.TheVariants.{Jumps, JumpsIf, JumpsToHl, Calls, CallsIf, Returns, ReturnsIf, Halts}
 use Rattle.decode80.specs.declared.instr.Instr.{Instr}
@@ -227,3 +227,7 @@ pub record Follows (image : Located) (interrupted : Bool) (quiet : ℕ → Bool)
   pub summaries : List Summary
   pub states : All (λ s. Goes image (bounds_of image) interrupted quiet code ways listed summaries table bytes s) table
   pub fit : All (λ summary. FitsSummary image interrupted quiet code ways listed summaries summary) summaries
+
+-- where the states of a table stand, and those of its summaries
+abbrev pub places_among : List FollowedState → List Summary → List ℕ
+places_among states summaries = map (λ s. s.at) states ++ flat_map (λ summary. map (λ s. s.at) summary.states.items) summaries

@@ -12,6 +12,7 @@ use Rattle.verify80_spans.specs.declared.{span.Span.Span}
 use Rattle.verify80_spans.specs.Span.{Within}
 use Rattle.verify80_states.specs.{Known.IsQuietKnown, Known.nothing_known, Steps.AreCodeBytes}
 use Rattle.verify80_stores.specs.Opening.{pointer_span}
+use Rattle.verify80_follow.specs.declared.handling.Handler.{Handler}
 use Rattle.verify80_follow.specs.declared.{followed.FollowedState.FollowedState, followed.Listed.Listed, followed.Way.Way, held.Beside.Beside, held.HeldPair.HeldPair, stack.StackBounds.StackBounds}
 use Rattle.verify80_follow.specs.{Follows.Has, Follows.IsExecuted, Follows.StateFollows, Follows.entered_stack, Follows.stack_of, Follows.uses_pointer, Held.count_of, Held.nothing_beside}
 
@@ -81,3 +82,14 @@ pub record HandlerTable (image : Located) (main : List FollowedState) (written :
   pub few : bytes ≤ most
   pub room : bounds.length ≤ most
   pub among : (way : Way) → Contains ways way → Contains all way
+
+-- the same, and each of the table's states stands at one of these places
+pub record HandlesAmong (image : Located) (main : List FollowedState) (written : ℕ → Bool) (quiet : ℕ → Bool) (all : List Way) (places : List ℕ) (listed : Listed) (most handler : ℕ) : Type 0 where
+  pub of : HandlerTable image main written quiet all listed most handler
+  pub placed : All (λ s. Contains places s.at) of.table
+
+-- a handler's own table follows it, with no more bytes on the stack than it says, which are no more than these
+pub record IsHandled (image : Located) (main : List FollowedState) (written : ℕ → Bool) (quiet : ℕ → Bool) (listed : Listed) (most : ℕ) (handler : Handler) : Type 0 where
+  pub of : HandlerTable image main written quiet handler.table.ways.items listed handler.table.bytes handler.at
+  pub states : of.table ≡ handler.table.states.items
+  pub few : handler.table.bytes ≤ most

@@ -3,7 +3,7 @@
 use Rattle.std.specs.Prelude.{◌≡◌, ◌≢◌, ◌⊎◌, ◌≤◌, ◌<◌, ℕ, Bool, true, false, List, All, Any, Contains, None, Some, IfSome, IsSome, length, slice_get}
 use Rattle.decode80.specs.{declared.fetching.Fetched.Fetched, Fetch.direct_bytes}
 use Rattle.decode80.specs.declared.instr.Instr.TheVariants.{Ei, Hlt, Pchl}
-use Rattle.image80.specs.{Regions.AreRegions, Regions.Areas, Regions.in_data, Regions.targets_at, Regions.top_of, Image.Located, Image.memory_of}
+use Rattle.image80.specs.{Range.in_range, Regions.AreRegions, Regions.Areas, Regions.in_data, Regions.targets_at, Regions.top_of, Image.Located, Image.memory_of}
 use Rattle.machine80.specs.{Cpu.hl_of, Effects.pointed_bytes, Effects.stack_bytes, Effects.target, Step.Machine, Step.fetch, World.World, World.returns, World.IsJustBelow}
 use Rattle.verify80.specs.Looking.{declared_targets, halt_follows, is_declared}
 use Rattle.verify80.specs.Boards.{IsFollowed, StaysInside, fetched_anywhere}
@@ -12,7 +12,7 @@ use Rattle.verify80_states.specs.{Bytes.HoldsBytes, Known.HoldsKnown, QuietBoard
 use Rattle.verify80_stores.specs.{declared.stores.OpenStore.OpenStore, Boards.IsListedAt}
 use Rattle.verify80_follow.specs.declared.{followed.FollowedState.FollowedState, followed.Listed.Listed, followed.Way.Way}
 use Rattle.verify80_follow.specs.{Held.Entry, Held.HoldsBeside, Held.count_of, InterruptedBoards.OnInterruptedBoard, Stack.HoldsStack}
-use Rattle.verify80_follow.specs.{Stack.bounds_of, Stack.pointer_at, Follows.Follows, Follows.IsWay, Follows.stack_of}
+use Rattle.verify80_follow.specs.{Stack.bounds_of, Stack.pointer_at, Follows.Follows, Follows.IsWay, Follows.places_among, Follows.stack_of}
 
 -- a store is listed at an address, or a PCHL is
 abbrev pub IsLeftOpenAt : Listed → ℕ → Type 0
@@ -22,9 +22,14 @@ IsLeftOpenAt listed at = IsListedAt listed.stores.items listed.jumps.items at
 abbrev pub GoesToListed : Areas → List OpenStore → (at address : ℕ) → Type 0
 GoesToListed regions stores at address = (in_data regions address ≡ true) ⊎ Any (λ store. (store.at ≡ at) × Within store.span address) stores
 
+-- an address is in STACK, and among so many bytes just below its top
+pub record IsOnStack (image : Located) (bytes address : ℕ) : Type 0 where
+  pub in_stack : in_range image.regions.stack address ≡ true
+  pub below : IsJustBelow (top_of image.regions) bytes address
+
 -- what is promised of each world: its next instruction is fetched inside code, and is the image's; it stores directly to data alone, and by a pair to
 -- data or where that is listed; a return that is taken, and a PCHL without declared targets, goes behind a call or by a listed way; a PCHL with declared
--- targets is listed, or goes to one of them; as stack it touches only a given number of bytes just below the stack's top; if it is EI of a program that
+-- targets is listed, or goes to one of them; as stack it touches only bytes of STACK, a given number just below its top; if it is EI of a program that
 -- isn't interrupted, the byte behind it is a HLT in the code; and unless it is HLT, the run goes on, whatever byte comes in, if it stays inside where
 -- it is listed
 pub record KeepsFollowed (image : Located) (interrupted : Bool) (bytes : ℕ) (ways : List Way) (listed : Listed) (w : World) : Type 0 where
@@ -38,7 +43,7 @@ pub record KeepsFollowed (image : Located) (interrupted : Bool) (bytes : ℕ) (w
   pub jumping : found.instr ≡ Pchl → targets_at image.regions w.machine.cpu.pc ≡ None → IsWay image ways w.machine.cpu.pc (hl_of w.machine.cpu.registers)
   pub declared : found.instr ≡ Pchl → is_declared image.regions w.machine.cpu.pc ≡ true →
       Contains (declared_targets image.regions w.machine.cpu.pc) (hl_of w.machine.cpu.registers) ⊎ Contains listed.jumps.items w.machine.cpu.pc
-  pub stack : All (λ address. IsJustBelow (top_of image.regions) bytes address) (stack_bytes found.instr w.machine.cpu)
+  pub stack : All (IsOnStack image bytes) (stack_bytes found.instr w.machine.cpu)
   pub halts : interrupted ≡ false → found.instr ≡ Ei → halt_follows image.regions w.machine.memory w.machine.cpu.pc ≡ true
   pub goes_on : found.instr ≢ Hlt → (IsLeftOpenAt listed w.machine.cpu.pc → StaysInside image.regions w.machine found.instr) →
       (byte : ℕ) → byte < 256 → IsFollowed image.regions (IsLeftOpenAt listed) byte w
@@ -67,24 +72,26 @@ pub record KnowsWorld (image : Located) (interrupted : Bool) (entry : Entry) (ta
 
 -- On every board whose devices leave quiet addresses as they are, from the image's start, with SP at the stack's top or anywhere, whatever registers and flags are and memory outside the
 -- code holds: up to the first step at a listed address that stores outside data or jumps by HL to none of its declared targets, a program that a
--- table follows keeps that promise. If nothing is listed, that is each world of the run.
-abbrev pub PromiseOfFollowed : Located → (quiet : ℕ → Bool) → (is_set : Bool) → List Way → Listed → (bytes : ℕ) → Type 0
-PromiseOfFollowed image quiet is_set ways listed bytes = (start : Machine) → start.cpu.pc ≡ image.start → length start.memory ≡ 65536 → HasCode image start.memory → HoldsBytes start →
-    (is_set ≡ true → start.cpu.sp ≡ top_of image.regions) → (w : World) (set : Bool) → OnQuietBoard image.regions quiet (IsLeftOpenAt listed) start is_set set w → KeepsFollowed image false bytes ways listed w
+-- table follows keeps that promise, and each of its instructions is at one of the places where the table's states stand. If nothing is listed, that is
+-- each world of the run.
+abbrev pub PromiseOfFollowed : Located → (quiet : ℕ → Bool) → (is_set : Bool) → (places : List ℕ) → List Way → Listed → (bytes : ℕ) → Type 0
+PromiseOfFollowed image quiet is_set places ways listed bytes = (start : Machine) → start.cpu.pc ≡ image.start → length start.memory ≡ 65536 → HasCode image start.memory → HoldsBytes start →
+    (is_set ≡ true → start.cpu.sp ≡ top_of image.regions) → (w : World) (set : Bool) → OnQuietBoard image.regions quiet (IsLeftOpenAt listed) start is_set set w →
+    Contains places w.machine.cpu.pc × KeepsFollowed image false bytes ways listed w
 
 -- The same on every board on which it is interrupted by what gives back SP, registers, flags and what is pushed, and stores to data that isn't quiet:
 -- the run goes on behind a HLT if interrupts may come, and wherever they may, SP is set, and no deeper than the stack's bound.
-abbrev pub PromiseOfInterrupted : Located → (quiet : ℕ → Bool) → (is_set : Bool) → List Way → Listed → (bytes : ℕ) → Type 0
-PromiseOfInterrupted image quiet is_set ways listed bytes = (start : Machine) → start.cpu.pc ≡ image.start → length start.memory ≡ 65536 → HasCode image start.memory → HoldsBytes start →
+abbrev pub PromiseOfInterrupted : Located → (quiet : ℕ → Bool) → (is_set : Bool) → (places : List ℕ) → List Way → Listed → (bytes : ℕ) → Type 0
+PromiseOfInterrupted image quiet is_set places ways listed bytes = (start : Machine) → start.cpu.pc ≡ image.start → length start.memory ≡ 65536 → HasCode image start.memory → HoldsBytes start →
     (is_set ≡ true → start.cpu.sp ≡ top_of image.regions) → (w : World) (set enabled : Bool) → OnInterruptedBoard image.regions quiet (IsLeftOpenAt listed) start is_set set enabled w →
-    KeepsFollowed image true bytes ways listed w × (enabled ≡ true → IsReady image bytes set w)
+    Contains places w.machine.cpu.pc × (KeepsFollowed image true bytes ways listed w × (enabled ≡ true → IsReady image bytes set w))
 
 -- what is promised of a program that is interrupted, or isn't
-abbrev pub PromiseOf : (interrupted : Bool) → Located → (quiet : ℕ → Bool) → (is_set : Bool) → List Way → Listed → (bytes : ℕ) → Type 0
-PromiseOf false image quiet is_set ways listed bytes = PromiseOfFollowed image quiet is_set ways listed bytes
-PromiseOf true image quiet is_set ways listed bytes = PromiseOfInterrupted image quiet is_set ways listed bytes
+abbrev pub PromiseOf : (interrupted : Bool) → Located → (quiet : ℕ → Bool) → (is_set : Bool) → (places : List ℕ) → List Way → Listed → (bytes : ℕ) → Type 0
+PromiseOf false image quiet is_set places ways listed bytes = PromiseOfFollowed image quiet is_set places ways listed bytes
+PromiseOf true image quiet is_set places ways listed bytes = PromiseOfInterrupted image quiet is_set places ways listed bytes
 
 abbrev pub FollowedProgramsKeepThePromise : Type 0
 FollowedProgramsKeepThePromise = (interrupted : Bool) (image : Located) (quiet : ℕ → Bool) (is_set : Bool) (ways : List Way) (listed : Listed) (table : List FollowedState) (bytes : ℕ) → AreRegions image.regions →
-    ((at : ℕ) → quiet at ≡ true → in_data image.regions at ≡ true) → Follows image interrupted quiet is_set ways listed table bytes → bytes ≤ image.regions.stack.length →
-    PromiseOf interrupted image quiet is_set ways listed bytes
+    ((at : ℕ) → quiet at ≡ true → in_data image.regions at ≡ true) → (fits : Follows image interrupted quiet is_set ways listed table bytes) → bytes ≤ image.regions.stack.length →
+    PromiseOf interrupted image quiet is_set (places_among table fits.summaries) ways listed bytes

@@ -9,7 +9,7 @@ ghost use Rattle.verify80_follow.specs.Follows.{Covers, CoversStack, CoversThen,
 ghost use Rattle.verify80_follow.specs.Follows.{JumpsBy, IsExecuted, IsShownOrListed, JumpsByNumber, LeadsIf, LeadsTo, LeavesHalt};
 ghost use Rattle.verify80_follow.specs.Follows.{ReturnsLeft, ReturnsTo, StateFollows, first_stack, is_call, stack_of};
 ghost use Rattle.verify80_follow.specs.Held.{IsBesideInside, beside_then, nothing_beside};
-ghost use Rattle.verify80_follow.specs.Promise.{PromiseOf};
+ghost use Rattle.verify80_follow.specs.{Promise.PromiseOf, Reaching.places_of};
 ghost use Rattle.verify80_follow.specs.Stack.{IsStackInside, after_of, bounds_of};
 ghost use Rattle.decode80.specs.{Facts.flow, declared.flow.Flow.TheVariants.JumpsToHl, declared.instr.Instr.TheVariants.Ei};
 ghost use Rattle.verify80.specs.{LookLaws.fetch_at, Looking.declared_targets, Looking.is_declared};
@@ -613,7 +613,7 @@ pub fn follows(
     run: RunKind,
 ) -> Result<bool, AllocError>
     ensures promise { IfOk result (λ follows. follows ≡ true →
-        PromiseOf run.interrupted image.now (is_quiet image.now.regions quiet.now) run.is_set table.now.ways.items table.now.listed table.now.bytes) }
+        PromiseOf run.interrupted image.now (is_quiet image.now.regions quiet.now) run.is_set (places_of table.now []) table.now.ways.items table.now.listed table.now.bytes) }
 {
     image.regions.stack();
     let code = code_bytes(alloc, image)?;
@@ -633,7 +633,8 @@ fn follows_marked(
     requires rules { AreRegions image.now.regions }
     requires code { AreCodeBytes image.now code.now }
     requires quiet { (at : ℕ) → is_marked quiet.now at ≡ true → in_data image.now.regions at ≡ true }
-    ensures promise { IfOk result (λ follows. follows ≡ true → PromiseOf run.interrupted image.now (is_marked quiet.now) run.is_set table.now.ways.items table.now.listed table.now.bytes) }
+    ensures promise { IfOk result (λ follows. follows ≡ true → PromiseOf run.interrupted image.now (is_marked quiet.now) run.is_set (places_of table.now [])
+        table.now.ways.items table.now.listed table.now.bytes) }
 {
     followed_programs_keep_the_promise();
     fits(alloc, image, table, code, quiet, run)
@@ -649,7 +650,9 @@ pub(crate) fn fits(
     run: RunKind,
 ) -> Result<bool, AllocError>
     requires code { AreCodeBytes image.now code.now }
-    ensures fits { IfOk result (λ fits. fits ≡ true → Follows image.now run.interrupted (is_marked quiet.now) run.is_set table.now.ways.items table.now.listed table.now.states.items table.now.bytes × (table.now.bytes ≤ image.now.regions.stack.length)) }
+    ensures fits { IfOk result (λ fits. fits ≡ true →
+        (follows : Follows image.now run.interrupted (is_marked quiet.now) run.is_set table.now.ways.items table.now.listed table.now.states.items table.now.bytes)
+        × ((follows.summaries ≡ table.now.summaries.items) × (table.now.bytes ≤ image.now.regions.stack.length))) }
 {
     let program = ImageCode::new(alloc, image)?;
     let ends = find_data_ends(alloc, &image.regions)?;

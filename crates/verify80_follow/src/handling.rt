@@ -1,6 +1,6 @@
 //! Whether a table of states follows a handler, wherever the stack is when it is entered.
 
-ghost use Rattle.std.specs.Prelude.{◌≡◌, ◌<◌, ◌≤◌, ◌+◌, ℕ, Some, [], false, true, All, IfOk, IfSome, length, map};
+ghost use Rattle.std.specs.Prelude.{◌≡◌, ◌<◌, ◌≤◌, ◌+◌, ◌∷◌, ℕ, Some, [], false, true, All, IfOk, IfSome, length, map};
 ghost use Rattle.decode80.specs.{Fetch.direct_bytes, declared.instr.Instr.TheVariants.Ei};
 ghost use Rattle.image80.specs.Regions.{AreRegions, in_data};
 ghost use Rattle.verify80_spans.specs.Span.{Within};
@@ -8,8 +8,8 @@ ghost use Rattle.verify80_states.specs.{Known.IsKnownInside, Known.nothing_known
 ghost use Rattle.verify80_stores.specs.{DataReach.AreDataEnds, Opening.pointer_span};
 ghost use Rattle.verify80_follow.specs.Follows.{Has, stack_of, uses_pointer, entered_stack};
 ghost use Rattle.verify80_follow.specs.Held.{IsBesideInside, count_of, nothing_beside};
-ghost use Rattle.verify80_follow.specs.Handling.{BeginsAnew, GivesBack, Handles, HandlerTable, IsReturn, entered_beside};
-ghost use Rattle.verify80_follow.specs.Live.{PromiseOfLive, handler_bounds, handler_ways};
+ghost use Rattle.verify80_follow.specs.Handling.{BeginsAnew, GivesBack, Handles, IsHandled, IsReturn, entered_beside};
+ghost use Rattle.verify80_follow.specs.{Live.PromiseOfLive, Live.handler_bounds, Live.handler_ways, Reaching.places_of};
 ghost use Rattle.verify80_follow.specs.Stack.{IsStackInside};
 ghost use Rattle.verify80_follow.specs.Writes.{AreWriteEnds, MayBeWritten};
 
@@ -204,7 +204,7 @@ pub fn uses_pointer(instr: Instr) -> bool
 
 /// Whether a table follows an image to which interrupts come, and each handler's table its handler, so that every live machine on a board that leaves
 /// the quiet addresses alone keeps the promise: those of data in the ranges `run.quiet`. Of stores and jumps the handlers' tables leave open what the
-/// image's table lists.
+/// image's table lists. A machine to which only one of the handlers comes keeps it with the bytes of that handler's table.
 ///
 /// # Errors
 /// `AllocError` if memory runs out.
@@ -216,8 +216,11 @@ pub fn follows_live(
     run: LiveRun<'_>,
 ) -> Result<bool, AllocError>
     ensures promise { IfOk result (λ follows. follows ≡ true →
-        PromiseOfLive image.now (is_quiet image.now.regions run.entry.quiet.now) run.entry.is_set (map (λ handler. handler.at) handlers.now) table.now.ways.items table.now.listed table.now.bytes
-        (handler_bounds image.now.regions run.entry.writes.now run.entry.most handlers.now)) }
+        PromiseOfLive image.now (is_quiet image.now.regions run.entry.quiet.now) run.entry.is_set (map (λ handler. handler.at) handlers.now) (places_of table.now handlers.now)
+        table.now.ways.items table.now.listed table.now.bytes (handler_bounds image.now.regions run.entry.writes.now run.entry.most handlers.now)) }
+    ensures each { IfOk result (λ follows. follows ≡ true → All (λ handler.
+        PromiseOfLive image.now (is_quiet image.now.regions run.entry.quiet.now) run.entry.is_set (handler.at ∷ []) (places_of table.now handlers.now)
+        table.now.ways.items table.now.listed table.now.bytes (handler_bounds image.now.regions run.entry.writes.now handler.table.bytes handlers.now)) handlers.now) }
 {
     image.regions.stack();
     let code = code_bytes(alloc, image)?;
@@ -255,8 +258,10 @@ fn follows_live_marked(
     requires rules { AreRegions image.now.regions }
     requires code { AreCodeBytes image.now looked.code.now }
     requires quiet { (at : ℕ) → is_marked looked.quiet.now at ≡ true → in_data image.now.regions at ≡ true }
-    ensures promise { IfOk result (λ follows. follows ≡ true → PromiseOfLive image.now (is_marked looked.entry.quiet.now) is_set (map (λ handler. handler.at) handlers.now) table.now.ways.items table.now.listed table.now.bytes
-        (record { written = is_marked looked.entry.written.now; bytes = most; ways = handler_ways handlers.now })) }
+    ensures promise { IfOk result (λ follows. follows ≡ true → PromiseOfLive image.now (is_marked looked.entry.quiet.now) is_set (map (λ handler. handler.at) handlers.now) (places_of table.now handlers.now)
+        table.now.ways.items table.now.listed table.now.bytes (record { written = is_marked looked.entry.written.now; bytes = most; ways = handler_ways handlers.now })) }
+    ensures each { IfOk result (λ follows. follows ≡ true → All (λ handler. PromiseOfLive image.now (is_marked looked.entry.quiet.now) is_set (handler.at ∷ []) (places_of table.now handlers.now)
+        table.now.ways.items table.now.listed table.now.bytes (record { written = is_marked looked.entry.written.now; bytes = handler.table.bytes; ways = handler_ways handlers.now })) handlers.now) }
 {
     live_machines_keep_the_promise();
     let run = RunKind {
@@ -335,7 +340,7 @@ fn are_all_handled<'a>(
     most: u16,
 ) -> Result<bool, AllocError>
     requires code { AreCodeBytes image.now looked.code.now }
-    ensures { IfOk result (λ handled. handled ≡ true → All (λ handler. HandlerTable image.now table.now.states.items (is_marked looked.entry.written.now) (is_marked looked.entry.quiet.now) handler.table.ways.items table.now.listed most handler.at) handlers.now) }
+    ensures { IfOk result (λ handled. handled ≡ true → All (IsHandled image.now table.now.states.items (is_marked looked.entry.written.now) (is_marked looked.entry.quiet.now) table.now.listed most) handlers.now) }
 {
     let anew = mark_anew(alloc, &table.states)?;
     let ends = find_write_ends(alloc, &image.regions, looked.written)?;
@@ -365,7 +370,7 @@ fn are_handled(
     requires written { around.writes.regions.now ≡ image.now.regions }
     requires anew { (at : ℕ) → is_marked around.anew.now at ≡ true → Has around.main.now at nothing_known nothing_beside (Some []) }
     requires writes { AreWriteEnds around.writes.regions.now around.writes.marks.now around.writes.ends.now }
-    ensures { IfOk result (λ handled. handled ≡ true → All (λ handler. HandlerTable image.now around.entry.main.now (is_marked around.entry.writes.marks.now) (is_marked looked.entry.quiet.now) handler.table.ways.items listed.now most handler.at) handlers.now) }
+    ensures { IfOk result (λ handled. handled ≡ true → All (IsHandled image.now around.entry.main.now (is_marked around.entry.writes.marks.now) (is_marked looked.entry.quiet.now) listed.now most) handlers.now) }
 {
     for place in 0..handlers.len() {
         if !is_handled(alloc, image, &handlers[place], listed, looked, around, most)? {
@@ -389,7 +394,7 @@ fn is_handled(
     requires written { around.writes.regions.now ≡ image.now.regions }
     requires anew { (at : ℕ) → is_marked around.anew.now at ≡ true → Has around.main.now at nothing_known nothing_beside (Some []) }
     requires writes { AreWriteEnds around.writes.regions.now around.writes.marks.now around.writes.ends.now }
-    ensures { IfOk result (λ handled. handled ≡ true → HandlerTable image.now around.entry.main.now (is_marked around.entry.writes.marks.now) (is_marked looked.entry.quiet.now) handler.now.table.ways.items listed.now most handler.now.at) }
+    ensures { IfOk result (λ handled. handled ≡ true → IsHandled image.now around.entry.main.now (is_marked around.entry.writes.marks.now) (is_marked looked.entry.quiet.now) listed.now most handler.now) }
 {
     let program = ImageCode::new(alloc, image)?;
     let ends = find_data_ends(alloc, &image.regions)?;

@@ -1,5 +1,5 @@
 use Rattle.plm80_console.specs.AnswerLaws.{err_from}
-use Rattle.std.specs.Prelude.{false, true}
+use Rattle.std.specs.Prelude.{true}
 use Rattle.std.proofs.Common.{rules}
 use Rattle.std.proofs.lemmas.Bool.{false≢true}
 use Rattle.omf_library.specs.Writing.{is_too_large}

@@ -15,7 +15,7 @@ pub returns-in_ok-answer-in-Live : goal.returns-in_ok-answer-in-Live
 returns-in_ok-answer-in-Live c =
     let asked = c.args.asked in
     let kept = subst (IsFollowedAllBy asked.interrupted asked.handlers.now asked.quiet.now c.args.image.now) c.in-Live.is c.in_ok-found.ensures in
-    live c.in-Live.found kept.0 kept.1 c.in_ok-answer-in-Live.ensures
+    live c.in-Live.found kept.0 kept.1.0 kept.1.1 c.in_ok-answer-in-Live.ensures
 
 pub returns-in_ok-text-in-Stopped-2 : goal.returns-in_ok-text-in-Stopped-2
 returns-in_ok-text-in-Stopped-2 c =

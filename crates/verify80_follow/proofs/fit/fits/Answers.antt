@@ -24,19 +24,20 @@ returns c =
     let same : c.in_ok-program.program ≡ image = c.in_ok-program.ensures in
     let within = c.if-table-stack.false in
     let stack = c.stack.ensures in
+    let Kept : List Way → List FollowedState → Type 0 = λ (l : List Way) (t : List FollowedState). (f : Follows image on quiet is_set l listed t bytes) × ((f.summaries ≡ c.args.table.now.summaries.items) × (bytes ≤ image.regions.stack.length)) in
     record {
       fits = ok_maps c.all_go.result (λ f. f ≡ true → All (λ s. Goes c.in_ok-program.program c.bounds_of.result on quiet c.args.code.now ways listed summaries states bytes s) states)
-          (λ f. f ≡ true → Follows image on quiet is_set c.args.table.now.ways.items listed c.args.table.now.states.items bytes × (bytes ≤ image.regions.stack.length))
-          (λ f follow is. (
-            subst (λ (l : List Way). Follows image on quiet is_set l listed c.args.table.now.states.items bytes) c.deref-3.ensures.value
-                (subst (λ (t : List FollowedState). Follows image on quiet is_set ways listed t bytes) c.deref.ensures.value (record {
-                  code = c.args.code.now;
-                  are_code = c.requires.code;
-                  start = subst (λ (i : Located). Has states i.start nothing_known nothing_beside (first_stack is_set)) same (subst (λ (n : ℕ). Has states n nothing_known nothing_beside (first_stack is_set)) c.start.ensures (c.if-not-has_start.ensures refl));
-                  summaries = summaries;
-                  fit = subst (λ (i : Located). All (λ p. FitsSummary i on quiet c.args.code.now ways listed summaries p) summaries) same (c.in_ok-fits_summaries.ensures c.if-not-branch.false);
-                  states = subst (λ (i : Located). All (λ s. Goes i (bounds_of i) on quiet c.args.code.now ways listed summaries states bytes s) states) same (subst (λ (b : StackBounds). All (λ s. Goes c.in_ok-program.program b on quiet c.args.code.now ways listed summaries states bytes s) states) c.bounds_of.ensures (follow is));
-                })),
-            subst (λ (i : Located). bytes ≤ i.regions.stack.length) same (grind (arith, nat_tests, within, stack)),
-          )) c.all_go.ensures;
+          (λ f. f ≡ true → Kept c.args.table.now.ways.items c.args.table.now.states.items)
+          (λ f follow is. subst (λ (l : List Way). Kept l c.args.table.now.states.items) c.deref-3.ensures.value
+          (subst (λ (t : List FollowedState). Kept ways t) c.deref.ensures.value (
+            record {
+              code = c.args.code.now;
+              are_code = c.requires.code;
+              start = subst (λ (i : Located). Has states i.start nothing_known nothing_beside (first_stack is_set)) same (subst (λ (n : ℕ). Has states n nothing_known nothing_beside (first_stack is_set)) c.start.ensures (c.if-not-has_start.ensures refl));
+              summaries = summaries;
+              fit = subst (λ (i : Located). All (λ p. FitsSummary i on quiet c.args.code.now ways listed summaries p) summaries) same (c.in_ok-fits_summaries.ensures c.if-not-branch.false);
+              states = subst (λ (i : Located). All (λ s. Goes i (bounds_of i) on quiet c.args.code.now ways listed summaries states bytes s) states) same (subst (λ (b : StackBounds). All (λ s. Goes c.in_ok-program.program b on quiet c.args.code.now ways listed summaries states bytes s) states) c.bounds_of.ensures (follow is));
+            },
+            (c.deref-4.ensures.value, subst (λ (i : Located). bytes ≤ i.regions.stack.length) same (grind (arith, nat_tests, within, stack))),
+          ))) c.all_go.ensures;
     }

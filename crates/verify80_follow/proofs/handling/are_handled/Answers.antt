@@ -2,7 +2,7 @@ use Rattle.std.specs.Prelude.{◌≡◌, Some, slice_get}
 use Rattle.std.proofs.Common.{arith, below_more, get_or, subst, ◌∙◌}
 use Rattle.std.proofs.lemmas.Option.{get_or_from_slice_get, slice_get-get_or}
 use Rattle.verify80_states.specs.Marks.{is_marked}
-use Rattle.verify80_follow.specs.Handling.{HandlerTable}
+use Rattle.verify80_follow.specs.Handling.{IsHandled}
 use Rattle.verify80_follow.proofs.handling.are_handled.Goals as goal
 
 pub loop-place-preserved : goal.loop-place-preserved
@@ -11,8 +11,8 @@ loop-place-preserved c k h less there =
     let main = c.args.around.main.now in
     let written = is_marked c.args.around.writes.marks.now in
     let quiet = is_marked c.args.looked.quiet.now in
-    below_more (λ n. slice_get c.args.handlers.now n ≡ Some h → HandlerTable image main written quiet h.table.ways.items c.args.listed.now c.args.most h.at) c.loop-place.place (λ n fewer at. c.loop-place.invariant n h fewer at)
-    (λ at. subst (λ t. HandlerTable image main written quiet t.table.ways.items c.args.listed.now c.args.most t.at) (c.index-handlers-place.is ∙ get_or_from_slice_get c.args.handlers.now c.loop-place.place h c.index-handlers-place.result at) (c.in_ok-is_handled.ensures c.if-not-branch.false)) k less there
+    below_more (λ n. slice_get c.args.handlers.now n ≡ Some h → IsHandled image main written quiet c.args.listed.now c.args.most h) c.loop-place.place (λ n fewer at. c.loop-place.invariant n h fewer at)
+    (λ at. subst (λ t. IsHandled image main written quiet c.args.listed.now c.args.most t) (c.index-handlers-place.is ∙ get_or_from_slice_get c.args.handlers.now c.loop-place.place h c.index-handlers-place.result at) (c.in_ok-is_handled.ensures c.if-not-branch.false)) k less there
 
 pub returns : goal.returns
 returns c is k d inside =

@@ -4,7 +4,7 @@ use Rattle.std.proofs.lemmas.Bool.Decides.{nat_tests}
 use Rattle.image80.specs.Image.{Located}
 use Rattle.verify80_states.specs.{Marks.is_marked}
 use Rattle.verify80_follow.specs.declared.{followed.Way.Way}
-use Rattle.verify80_follow.specs.Handling.{HandlerTable, Handles}
+use Rattle.verify80_follow.specs.Handling.{Handles, IsHandled}
 use Rattle.verify80_follow.proofs.FitLemmas.{ok_maps}
 use Rattle.verify80_follow.proofs.handling.is_handled.Goals as goal
 
@@ -23,19 +23,23 @@ returns c =
     let same : c.in_ok-program.program ≡ image = c.in_ok-program.ensures in
     let within = c.if-table-most.false in
     ok_maps c.all_handle.result (λ f. f ≡ true → All (λ s. Handles c.in_ok-program.program main written (record { top = c.top.result; length = bytes }) quiet code ways listed states bytes s) states)
-    (λ f. f ≡ true → HandlerTable image main written quiet handler.table.ways.items listed c.args.most handler.at)
+    (λ f. f ≡ true → IsHandled image main written quiet listed c.args.most handler)
     (λ f handle is. record {
-      table = states;
-      ways = ways;
-      bytes = bytes;
-      bounds = record { top = c.top.result; length = bytes };
-      fits = record {
-        code = code;
-        are_code = c.requires.code;
-        start = c.if-not-has_entry.ensures refl;
-        states = subst (λ (i : Located). All (λ s. Handles i main written (record { top = c.top.result; length = bytes }) quiet code ways listed states bytes s) states) same (handle is);
+      of = record {
+        table = states;
+        ways = ways;
+        bytes = bytes;
+        bounds = record { top = c.top.result; length = bytes };
+        fits = record {
+          code = code;
+          are_code = c.requires.code;
+          start = c.if-not-has_entry.ensures refl;
+          states = subst (λ (i : Located). All (λ s. Handles i main written (record { top = c.top.result; length = bytes }) quiet code ways listed states bytes s) states) same (handle is);
+        };
+        few = omega arith;
+        room = omega arith;
+        among = λ way there. subst (λ (l : List Way). Contains l way) c.deref-3.ensures.value there;
       };
+      states = c.deref.ensures.value;
       few = grind (arith, nat_tests, within);
-      room = grind (arith, nat_tests, within);
-      among = λ way there. subst (λ (l : List Way). Contains l way) c.deref-3.ensures.value there;
     }) c.all_handle.ensures
