@@ -1,15 +1,13 @@
 -- What options say of an image, of which there is one reading.
-use Rattle.plm80_regions.proofs.Names.{◌≡◌, ℕ, ◌<◌, ◌++◌, List, [], All, Bool, true, false, Option, None, Some, DeclaredCase, Journal, Range, ap, arith, length, subst, sym}
-use Rattle.std.specs.Prelude.{Contains, Result, Ok, Err, map, nat_lt, slice_index, ◌&&◌, ◌∷◌}
+use Rattle.plm80_regions.proofs.Names.{◌≡◌, ◌∙◌, ℕ, ◌<◌, ◌++◌, List, [], All, Bool, true, Option, None, Some, DeclaredCase, Journal, Range, ap, arith, inl, inr, length, refl, subst, sym}
+use Rattle.std.specs.Prelude.{Contains, Result, Ok, Err, map, nat_lt, ◌&&◌, ◌∷◌, ◌⊎◌}
 use Rattle.std.specs.Result.{is_ok}
 use Rattle.std.proofs.Common.{get_or}
 use Rattle.std.proofs.lemmas.Bool.{false≢true}
 use Rattle.std.proofs.lemmas.List.{get_or-map, length-map}
 use Rattle.std.proofs.lemmas.List.Elements.{All-append, All-contains, All-contains_itself, Contains-append_left, Contains-append_right}
 use Rattle.board80.specs.declared.line.{Kind.TheVariants.Rom, Line.Line}
-use Rattle.decode80.specs.declared.fetching.{FetchFault.FetchFault, Fetched.Fetched}
-use Rattle.decode80.specs.Fetch.{fetch}
-use Rattle.image80.specs.{Image.Located, Image.PlacedBytes, Image.memory_of, Regions.Areas, Regions.in_code}
+use Rattle.image80.specs.{Image.Located, Image.PlacedBytes, Regions.Areas, Regions.in_code}
 use Rattle.loader80_text.specs.declared.inputs.fault.LengthFault.{LengthFault}
 use Rattle.loader80_text.specs.declared.inputs.fault.LengthFault.TheVariants.{Memory, TooLong}
 use Rattle.plm80_boards.specs.Boards.{AreInterruptsIn, interrupts_in}
@@ -29,10 +27,18 @@ pub no_interrupts : (board : Option (List Line)) → AreInterruptsIn board []
 no_interrupts None = λ k d below. absurd (omega (arith, below))
 no_interrupts (Some board) = tt
 
+either : {A B C : Type 0} → (A → C) → (B → C) → A ⊎ B → C
+either left right (inl a) = left a
+either left right (inr b) = right b
+
+ok_or_err : {A E : Type 0} (r : Result A E) → ((a : A) × (r ≡ Ok a)) ⊎ ((e : E) × (r ≡ Err e))
+ok_or_err (Ok a) = inl (a, refl)
+ok_or_err (Err e) = inr (e, refl)
+
 -- a PCHL is an instruction
-is_fetched : (r : Result Fetched FetchFault) → holds_pchl r ≡ true → is_ok r ≡ true
-is_fetched (Ok found) is = λ k. true
-is_fetched (Err fault) is = absurd (false≢true is)
+is_fetched : (code : ℕ → Bool) (image : Located) (at : ℕ) → holds_pchl (fetch_in code image at) ≡ true → is_ok (fetch_in code image at) ≡ true
+is_fetched code image at is =
+    either (λ found. ap is_ok found.1) (λ fault. absurd (false≢true (sym (ap holds_pchl fault.1) ∙ is))) (ok_or_err (fetch_in code image at))
 
 -- what holds of a list holds of a part of it
 of_part : {X : Type 0} (P : X → Type 0) (xs ys : List X) → ((x : X) → Contains xs x → Contains ys x) → All P ys → All P xs
@@ -46,7 +52,7 @@ each_at code image cases fit = λ k e below.
     let d : DeclaredCase = record { at = 0; targets = [] } in
     let inside : k < length cases = omega (arith, below, length-map cases at_of) in
     subst (λ (at : ℕ). is_ok (fetch_in code image at) ≡ true) (sym (get_or-map at_of cases k d e inside))
-    (is_fetched (fetch_in code image (get_or cases k d).at) (fit k d inside).pchl)
+    (is_fetched code image (get_or cases k d).at (fit k d inside).pchl)
 
 -- what fits by one reading of the options fits by another
 pub fits_by : (image : Located) (arguments : SuggestArguments) (board : Option (List Line)) (rom rom' ram ram' : List Range) (entries entries' : List ℕ)
@@ -76,14 +82,14 @@ fits_by image arguments board rom rom' ram ram' entries entries' cases cases' is
 of_bytes : (code : ℕ → Bool) (image other : Located) → image.chunks ≡ other.chunks → (entries : List ℕ) (cases : List DeclaredCase)
     → FitsIn code image entries cases → FitsIn code other entries cases
 of_bytes code image other same entries cases fits =
-    let Fetched_of : List PlacedBytes → ℕ → Result Fetched FetchFault = λ chunks at. fetch code (λ place. slice_index (memory_of chunks) place) at in
+    let With : List PlacedBytes → Located = λ chunks. record image { chunks = chunks } in
     record {
       each_case = λ k d below. record {
-        pchl = subst (λ (chunks : List PlacedBytes). holds_pchl (Fetched_of chunks (get_or cases k d).at) ≡ true) same (fits.each_case k d below).pchl;
-        targets = subst (λ (chunks : List PlacedBytes). All (λ at. is_ok (Fetched_of chunks at) ≡ true) (get_or cases k d).targets) same
+        pchl = subst (λ (chunks : List PlacedBytes). holds_pchl (fetch_in code (With chunks) (get_or cases k d).at) ≡ true) same (fits.each_case k d below).pchl;
+        targets = subst (λ (chunks : List PlacedBytes). All (λ at. is_ok (fetch_in code (With chunks) at) ≡ true) (get_or cases k d).targets) same
             (fits.each_case k d below).targets;
       };
-      each_entry = subst (λ (chunks : List PlacedBytes). All (λ at. is_ok (Fetched_of chunks at) ≡ true) entries) same fits.each_entry;
+      each_entry = subst (λ (chunks : List PlacedBytes). All (λ at. is_ok (fetch_in code (With chunks) at) ≡ true) entries) same fits.each_entry;
     }
 
 pub fits_of : (image other : Located) → image.chunks ≡ other.chunks → (rom : List Range) (entries : List ℕ) (cases : List DeclaredCase)
