@@ -26,7 +26,7 @@ use Rattle.plm80_runs.specs.declared.board_run.BoardRunArguments.{BoardRunArgume
 use Rattle.plm80_runs.specs.declared.board_trace.BoardTraceArguments.{BoardTraceArguments}
 use Rattle.plm80_runs.specs.declared.runnable.{Judged.Judged, Judged.TheVariants.Refused, Judged.TheVariants.Runs}
 use Rattle.plm80_runs.specs.declared.runnable.{Runnable.Runnable, Runnable.TheVariants.Accepted, Runnable.TheVariants.Followed}
-use Rattle.verify80.specs.{Looking.code_of, Reached.AreReached, Vouched.Voucher}
+use Rattle.verify80.specs.{Looking.code_of, Reached.AreReached}
 use Rattle.verify80_follow.specs.{declared.fit.Table.Table, Promise.KeepsFollowed, Promise.PromiseOf, Reaching.AreFollowed, Reaching.places_of}
 use Rattle.verify80_states.specs.QuietBoards.{is_quiet}
 

@@ -22,8 +22,8 @@ returns-in-Ok-Refused g c =
     c.prints.ensures c.give.ensures.given c.give.ensures.fault in
     record { done = both.0; fault = both.1 }
 
-pub returns-clause-fault : goal.returns-clause-fault
-returns-clause-fault g c =
+pub returns-in-Err-clause-fault : goal.returns-in-Err-clause-fault
+returns-in-Err-clause-fault g c =
     no_answer c.in_ok-board.ensures.read (g.C.Console.journal c.report_memory.new.self)
     (g.B.BoardCommand.answers c.args.command) (g.B.BoardCommand.begins c.args.command) c.report_memory.ensures
 
