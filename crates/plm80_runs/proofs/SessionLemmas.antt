@@ -40,7 +40,7 @@ session_given limits texts said before after old between new status empty same s
     let all = sent limits texts said before after status sends is in
     record {
       answer = prints all.0 status;
-      answers = record { said = said; says = all.1; status_is = is; no_file = refl };
+      answers = record { said = said; says = all.1; status_is = is; no_first = refl; no_file = refl };
       given = record {
         journal = printed before after all.0 old between new empty same all.2 taken ∙ ap (λ (j : Journal). and_printed j all.0) (sym (nothing_printed old));
         status_is = refl;
@@ -55,9 +55,9 @@ no_part text count none part = let empty : length text ≡ 0 = ap length none in
 -- a text of which a front part may be missing is that of an answer
 whole_answer : (limits : Limits) (texts : Texts) (said : Result Outcome SessionFault) (text : List ℕ) (count : ℕ)
     → Answers limits.outputs limits.steps texts said text → count < length text → (status : ℕ) × AnswersTexts limits texts (prints text status)
-whole_answer limits texts (Ok o) text count answers part = (_, record { said = Ok o; says = answers.1; status_is = refl; no_file = refl })
+whole_answer limits texts (Ok o) text count answers part = (_, record { said = Ok o; says = answers.1; status_is = refl; no_first = refl; no_file = refl })
 whole_answer limits texts (Err (Refused r)) text count answers part =
-    (1, record { said = Err (Refused r); says = answers.1; status_is = refl; no_file = refl })
+    (1, record { said = Err (Refused r); says = answers.1; status_is = refl; no_first = refl; no_file = refl })
 whole_answer limits texts (Err (Read n)) text count answers part = absurd (no_part text count answers.1 part)
 whole_answer limits texts (Err (TooLong n)) text count answers part = absurd (no_part text count answers.1 part)
 whole_answer limits texts (Err Memory) text count answers part = absurd (no_part text count answers part)

@@ -160,11 +160,12 @@ session_status (Ok outcome) = Ok (end_status outcome.end)
 session_status (Err (Refused refusal)) = Ok 1
 session_status (Err fault) = Err fault
 
--- what it says of the texts is printed
+-- what it says of the texts is printed, and nothing before it
 pub record AnswersTexts (limits : Limits) (texts : Texts) (answer : AnswerValue) : Type 0 where
   pub said : Result Outcome SessionFault
   pub says : Says limits.outputs limits.steps texts said answer.lines
   pub status_is : session_status said ≡ Ok answer.status
+  pub no_first : answer.first ≡ []
   pub no_file : answer.files ≡ []
 
 pub record AnswersSession (limits : Limits) (files : List FileValue) (answer : AnswerValue) : Type 0 where

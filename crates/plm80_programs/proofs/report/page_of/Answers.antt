@@ -1,4 +1,4 @@
-use Rattle.std.proofs.Common.{◌≡◌, ℕ, List, [], ◌++◌, ◌∙◌, ap}
+use Rattle.std.proofs.Common.{◌≡◌, ℕ, List, [], ◌++◌, ◌∙◌, ap, refl}
 use Rattle.std.proofs.lemmas.Result.{IfOk-weaker}
 use Rattle.image80.specs.Image.{Located}
 use Rattle.omf_model.specs.declared.symbols.Public.{Public}
@@ -24,6 +24,8 @@ returns c =
       calls = c.in_ok-graph.ensures.calls;
       stores = stores;
       listed = c.in_ok-stores.ensures.listed;
+      boards = c.in_ok-stores.ensures.boards refl;
+      stack = c.in_ok-stores.ensures.stack;
       shows = is
           ∙ same_page c.in_ok-graph.graph c.image-image.ensures.image (c.deref.ensures.value ∙ c.in_ok-verdict.ensures) c.publics.ensures
           (c.deref-2.ensures.value ∙ c.in_ok-stores-2.ensures ∙ ap (λ (i : Located). stores_lines [] i names stores) c.image-image.ensures.image);
