@@ -183,6 +183,13 @@ impl<'a> Console for HostConsole<'a> {
         reported
     }
 
+    fn report_unproved<F: Display + Drop>(&mut self, path: &str, fault: F) -> Reported {
+        let fault = format_args!("{path} {fault}");
+        let reported = Reported::print(self.rt, format_args!("plm80: {}\n", OneLine(fault)));
+        self.note(&Note::Reported);
+        reported
+    }
+
     fn report_usage(&mut self, error: &clap::Error) -> Reported {
         match self.usage(error) {
             Some(reported) => {

@@ -282,7 +282,7 @@ fn report_regions_fault<C: Console>(console: &mut C, path: &str, fault: AddingFa
     match fault {
         AddingFault::TooLong => console.report_file(path, Lack::TooLong),
         AddingFault::Regions(RegionsFault::Memory) => console.report_memory(),
-        AddingFault::Regions(fault) => console.report_file(path, fault),
+        AddingFault::Regions(fault) => console.report_unproved(path, fault),
     }
 }
 

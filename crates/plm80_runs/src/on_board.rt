@@ -98,7 +98,7 @@ pub fn report_run<C: Console>(console: &mut C, path: &str, fault: BoardRunFault)
     match fault {
         BoardRunFault::Memory => console.report_memory(),
         _ => {
-            let reported = console.report_file(path, fault);
+            let reported = console.report_unproved(path, fault);
             console.explain(
                 "an address of this DEVICE is no DATA of the regions: suggest lists devices as DATA, or write a DATA line by hand",
             );
