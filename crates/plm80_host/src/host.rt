@@ -165,27 +165,25 @@ impl<'a> Console for HostConsole<'a> {
     }
 
     fn report(&mut self, lack: Lack) -> Reported {
-        let reported = Reported::print(self.rt, format_args!("plm80: {lack}\n"));
+        let reported = self.print_fault(lack);
         self.note(&Note::Reported);
         reported
     }
 
     fn report_file(&mut self, path: &str, lack: Lack) -> Reported {
-        let fault = format_args!("{path} {lack}");
-        let reported = Reported::print(self.rt, format_args!("plm80: {}\n", OneLine(fault)));
+        let reported = self.print_fault(format_args!("{path} {lack}"));
         self.note(&Note::Reported);
         reported
     }
 
     fn blame<F: Display + Drop>(&mut self, fault: F) -> Reported {
-        let reported = Reported::print(self.rt, format_args!("plm80: {}\n", OneLine(fault)));
+        let reported = self.print_fault(fault);
         self.note(&Note::Blamed);
         reported
     }
 
     fn report_unproved<F: Display + Drop>(&mut self, path: &str, fault: F) -> Reported {
-        let fault = format_args!("{path} {fault}");
-        let reported = Reported::print(self.rt, format_args!("plm80: {}\n", OneLine(fault)));
+        let reported = self.print_fault(format_args!("{path} {fault}"));
         self.note(&Note::Reported);
         reported
     }
@@ -273,6 +271,11 @@ impl<'a> HostConsole<'a> {
             Ok(file) => Ok(NotedReader::new(file)),
             Err(error) => Err(self.report_system(path, Lack::Read, Some(kind_of(&error)))),
         }
+    }
+
+    /// Prints a fault on standard error, in a line of its own.
+    fn print_fault<F: Display + Drop>(&self, fault: F) -> Reported {
+        Reported::print(self.rt, format_args!("plm80: {}\n", OneLine(fault)))
     }
 
     /// Prints an error of clap on standard error, without what it advises; `None` if memory runs out for it.
