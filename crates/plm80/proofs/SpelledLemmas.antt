@@ -1,8 +1,9 @@
 -- The request that the words of a command line spell.
-use Rattle.std.specs.Prelude.{◌≡◌, ℕ, List, true}
+use Rattle.std.specs.Prelude.{◌≡◌, ◌≢◌, ℕ, Bool, List, false, true}
 use Rattle.std.proofs.Common.{◌∙◌, ap, refl, sym}
 use Rattle.clap.proofs.OnLiterals.{clap_on_literals}
 use Rattle.clap.specs.Simple.{App, HasMatchesOf, is_simple, subcommand_of, subcommand_rows_of}
+use Rattle.clap.specs.declared.error.kind.ErrorKind.{ErrorKind}
 use Rattle.clap.specs.declared.parser.matches.ArgMatches.{ArgMatches}
 use Rattle.plm80.specs.{CommandLine.plm80_app, Requests.IsRequestOf, declared.commands.arguments.Request.Request}
 
@@ -19,3 +20,8 @@ spelled app words matches request is has asked = record {
   are = asked.are;
   apart = asked.apart;
 }
+
+-- words with which clap fails but for memory aren't taken
+pub not_taken : (taken : Bool) (kind memory : ErrorKind) → (taken ≡ true → kind ≡ memory) → kind ≢ memory → taken ≡ false
+not_taken false kind memory passes other = refl
+not_taken true kind memory passes other = absurd (other (passes refl))

@@ -11,7 +11,7 @@ returns-clause-fault g c =
     (g.C.Console.journal c.read_input.new.self) (g.C.Console.journal c.output-output.new.self) between
     (omega (arith, c.in_ok-text.ensures.within, c.in_ok-text.text.ok.0)) c.in_ok-text.ensures.read c.output-output.ensures.unchanged
     c.output-output.ensures.written (rw c.deref.ensures.value at c.answer_of-answer.ensures) c.take_back-failure.ensures)
-    (sym c.bundle_status.ensures ∙ c.in-Err.is) c.report-reported.ensures
+    (sym c.bundle_status.ensures ∙ c.in-Err.is) c.report_bundle-reported.ensures
 
 pub returns-in-Ok-clause-done : goal.returns-in-Ok-clause-done
 returns-in-Ok-clause-done g c =

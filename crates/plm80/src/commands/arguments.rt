@@ -76,8 +76,7 @@ pub fn read_arguments<'a, C: Console>(
     let alloc = console.alloc();
     let matches = match matches_of(alloc, words) {
         Ok(matches) => matches,
-        Err(error) if error.kind() == ErrorKind::OutOfMemory => return Err(NoRequest::Files(error)),
-        Err(error) => return Err(NoRequest::Words(shown_error(alloc, words, error))),
+        Err(error) => return Err(untaken(alloc, words, error)),
     };
     match asked_for(console, &matches) {
         Ok(Some(request)) => Ok((request, is_explained(&matches))),
@@ -86,6 +85,17 @@ pub fn read_arguments<'a, C: Console>(
             Err(NoRequest::Files(error))
         }
         Err(error) => Err(NoRequest::Files(error)),
+    }
+}
+
+/// Why these words ask for nothing, with this error of clap: it doesn't take them, unless memory ran out.
+fn untaken(alloc: Global, words: &[String], error: Error) -> NoRequest
+    requires { takes plm80_app (map string_bytes words.now) ≡ true → kind_of error ≡ ErrorKind.OutOfMemory }
+    ensures { is_of_words result ≡ true → takes plm80_app (map string_bytes words.now) ≡ false }
+{
+    match error.kind() {
+        ErrorKind::OutOfMemory => NoRequest::Files(error),
+        _ => NoRequest::Words(shown_error(alloc, words, error)),
     }
 }
 
