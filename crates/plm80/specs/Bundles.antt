@@ -1,7 +1,7 @@
 -- What is done with a bundle. (Its exit statuses are this project's own.)
 use Rattle.std.specs.Prelude.{◌≡◌, ◌⊎◌, ◌≤◌, ℕ, List, [], Some, Result, Ok, Err, length}
 use Rattle.loader80.specs.declared.replies.Outcome.{Outcome}
-use Rattle.loader80.specs.declared.fault.SessionFault.TheVariants.{Memory, Read, Refused, TooLong, Write}
+use Rattle.loader80.specs.declared.fault.SessionFault.TheVariants.{Memory, Read, Refused, Write}
 use Rattle.loader80_text.specs.{Bundle.BundleSends, Bundle.bundle_limit, BundleText.bundle_texts}
 use Rattle.loader80_text.specs.declared.bundles.fault.BundleFault.{BundleFault, TheVariants.Session}
 use Rattle.plm80_console.specs.Journal.{Journal, and_blamed, and_input, and_printed, and_reported}
@@ -32,7 +32,6 @@ abbrev pub and_fault : Journal → BundleFault → Journal
 and_fault journal (Session (Read number)) = and_reported journal
 and_fault journal (Session Write) = and_reported journal
 and_fault journal (Session Memory) = and_reported journal
-and_fault journal (Session (TooLong number)) = and_reported journal
 and_fault journal fault = and_blamed journal
 
 -- A fault was reported, once: standard input couldn't be read, and nothing was printed; or its bundle has a fault, and what is sent at that

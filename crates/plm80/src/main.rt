@@ -126,7 +126,6 @@ fn report_bundle<C: Console>(console: &mut C, fault: BundleFault) -> Reported
         BundleFault::Session(SessionFault::Memory) => console.report_memory(),
         BundleFault::Session(SessionFault::Write) => console.report(Lack::Write),
         BundleFault::Session(SessionFault::Read(_)) => console.report(Lack::ReadInput),
-        BundleFault::Session(SessionFault::TooLong(_)) => console.report(Lack::LongInput),
         _ => console.blame(fault),
     }
 }
