@@ -67,7 +67,7 @@ pub record ReadsFurther (bytes : List ℕ) (left : ℕ) (modules : List ModuleVa
   pub reads : ReadsTo bytes modules next progress
   pub further : left_after bytes next progress < left
 
--- one item more is read than where so much is left
+-- at least an item more is read than at an earlier place
 abbrev pub ReadsOn : List ℕ → UnfinishedModule → Progress → List ModuleValue → UnfinishedModule → Progress → Type 0
 ReadsOn bytes was before modules next progress = ReadsFurther bytes (left_after bytes was before) modules next progress
 

@@ -36,7 +36,7 @@ impl Region {
         }
     }
 
-    /// Whether it may lie in memory of this kind; `None` stands for no memory.
+    /// Whether the region may lie in memory of a kind; `None` stands for no memory.
     fn may_lie_in(self, kind: Option<Kind>) -> bool {
         match (self, kind) {
             (Region::Code, Some(Kind::Rom) | Some(Kind::Ram)) => true,

@@ -215,7 +215,7 @@ pub(crate) struct Asked<'a> {
 }
 
 impl<'a> Asked<'a> {
-    /// The same with other quiet ranges.
+    /// What is asked, with other quiet ranges.
     fn with_quiet(self, quiet: &'a [Range]) -> Asked<'a>
         ensures quiet { result.quiet ≡ quiet.entry }
         ensures lists { result.lists ≡ self.entry.lists }

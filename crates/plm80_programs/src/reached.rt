@@ -163,7 +163,7 @@ fn add_unless_among(refusals: &mut Vec<Refusal>, refusal: Refusal) -> Result<(),
     Ok(())
 }
 
-/// Whether one of the refusals has the number and the address of `own`.
+/// Whether a refusal of a list has the number and the address of `own`.
 fn is_among(refusals: &[Refusal], own: Refusal) -> bool
     ensures { result ≡ list_any (is_same_refusal own) refusals.now }
 {

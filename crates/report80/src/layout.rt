@@ -13,7 +13,7 @@ pub(crate) struct Place {
     pub(crate) row: u16,
 }
 
-/// That one procedure calls another one: their numbers among the nodes.
+/// A call: the numbers of the caller and of the callee among the nodes.
 #[derive(Clone, Copy, Debug, PartialEq, Eq)]
 pub(crate) struct Edge {
     pub(crate) from: usize,

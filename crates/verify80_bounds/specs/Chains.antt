@@ -24,7 +24,7 @@ pub record CallsBy (calls : List CallSite) (p : Procedure) (call : CallSite) : T
   pub there : Contains calls call
   pub caller : call.caller ≡ p
 
--- what a chain uses that goes through a call, when the callee uses so much
+-- what a chain uses that goes through a call, when the callee uses a number of bytes
 abbrev pub through_call : CallSite → ℤ → ℤ
 through_call call below = (call.depth +ℤ pos 2) +ℤ below
 

@@ -197,8 +197,8 @@ fn word_at(
     trail.word()
 }
 
-/// What is known where the search comes to the next entry, from where a key isn't the one that is looked for; `None` if it isn't seen to come
-/// there, or the next entry isn't three bytes further on.
+/// What is known at the next entry of a table, from a key that isn't the one that is looked for; `None` if the walk isn't seen to get there,
+/// or the next entry isn't three bytes further on.
 fn passed_over(code: &ImageCode<'_>, reached: &[bool], found: Comparison) -> Option<KeyTrail> {
     let unknown = KeyTrail::unknown();
     let mut trail = walked(code, reached, unknown, found.start, found.fork)?.passed_over();

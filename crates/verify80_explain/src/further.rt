@@ -151,7 +151,7 @@ fn show_new<C: Code>(
     Ok(is_whole && are_shown)
 }
 
-/// Those of the points whose refusals aren't at `places`.
+/// The points of `faulty` whose refusals aren't at `places`.
 fn new_among(
     alloc: Global,
     faulty: Vec<FaultyPoint>,
@@ -286,7 +286,7 @@ impl<'a, 'b> Conditioning<'a, 'b> {
         Ok(begins)
     }
 
-    /// Lets the points of further searches weigh so much together.
+    /// Sets what the points of further searches may weigh together.
     pub(crate) fn allow(&mut self, limit: usize) {
         self.left = limit;
     }

@@ -73,7 +73,7 @@ no_pchl : (f : Flow) (i : Instr) → flow i ≡ f → (is_some (called f) || is_
 no_pchl f Pchl is kind = λ same. absurd (let it : (is_some (called (flow Pchl)) || is_return (flow Pchl)) ≡ true = subst (λ (g : Flow). (is_some (called g) || is_return g) ≡ true) (sym is) kind in true≢false (sym it))
 no_pchl f i is kind = λ same. cc
 
--- what is executed: the program, or a procedure that a call steps over, below so many bytes of the stack
+-- what is executed: the program, or a procedure that a call steps over, below a number of bytes of the stack
 pub record Level : Type 0 where
   pub table : List FollowedState
   pub most : ℕ

@@ -269,7 +269,7 @@ is_pushing (CallsIf condition to) f = holds condition f
 is_pushing Pushes f = true
 is_pushing w f = false
 
--- a step on a stack of so many bytes
+-- a step on a stack of a number of bytes
 module _ (regions : Areas) (ground : Ground regions) (facts : InstructionsKeepToFacts) (round : StatusWordRoundTrip) (e : Entry) (i : Instr) (byte next before after : ℕ) (m later : Machine)
     (goes : unguarded i byte next m ≡ Some later) (memory : later.memory ≡ stored m.memory (stores i next m.memory m.cpu)) (pointer : m.cpu.sp ≡ pointer_at (bounds regions ground) before) (few : before ≤ regions.stack.length)
     (direct : All (λ a. in_data regions a ≡ true) (direct_bytes i)) (pointed : All (λ a. in_data regions a ≡ true) (pointed_bytes i m.cpu.registers)) (whole : length m.memory ≡ 65536)

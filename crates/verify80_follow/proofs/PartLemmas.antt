@@ -1,4 +1,4 @@
--- A part of the stack: below so many bytes a handler, or a procedure that a call steps over, has a stack of its own.
+-- A part of the stack: below the bytes of its caller a handler, or a procedure that a call steps over, has a stack of its own.
 use Rattle.std.specs.Prelude.{◌≡◌, ◌≢◌, ◌≤◌, ◌<◌, ◌+◌, ◌-◌, ℕ, ◌/◌, ◌%◌, Bool, true, false, List, [], ◌∷◌, ◌++◌, cond, Option, None}
 use Rattle.std.specs.Prelude.{Some, Result, Ok, All, IfSome, length, slice_index, slice_set}
 use Rattle.std.specs.{List.fold}
@@ -26,7 +26,7 @@ use Rattle.verify80_follow.proofs.{FollowLemmas.leaves, GroundLemmas.Ground, Hel
 use Rattle.verify80_follow.proofs.StackLemmas.{any_within, byte_at, on_stack as on_part, pointer_below}
 use Rattle.verify80_follow.proofs.StackSteps.{behind_word, below_apart, two_read}
 
--- a part of the stack below so many bytes
+-- a part of the stack below a number of bytes
 abbrev pub part_below : Areas → (count : ℕ) → Range
 part_below regions count = record { first = regions.stack.first; length = regions.stack.length - count }
 

@@ -32,7 +32,7 @@ IsAsEntered e StackDe r = (r.d ≡ e.registers.d) × (r.e ≡ e.registers.e)
 IsAsEntered e StackHl r = (r.h ≡ e.registers.h) × (r.l ≡ e.registers.l)
 IsAsEntered e Psw r = (r.a ≡ e.registers.a) × (r.flags ≡ e.registers.flags)
 
--- the word of the stack from whose first byte so many are on it has these bytes
+-- the word of the stack that begins `depth` bytes below its top has these bytes
 pub record HoldsWord (bounds : StackBounds) (memory : List ℕ) (high low depth : ℕ) : Type 0 where
   pub two : 2 ≤ depth
   pub low_is : byte_in memory (pointer_at bounds depth) ≡ low

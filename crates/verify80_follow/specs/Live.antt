@@ -96,7 +96,7 @@ pub record HandlerBounds : Type 0 where
   pub bytes : ℕ
   pub ways : List Way
 
--- a stack pointer is at least two and at most so many bytes below where it was
+-- a stack pointer is at least two and at most `bytes` bytes below where it was
 pub record LiesBelow (was most sp : ℕ) : Type 0 where
   pub count : ℕ
   pub some : 2 ≤ count

@@ -22,7 +22,7 @@ IsLeftOpenAt listed at = IsListedAt listed.stores.items listed.jumps.items at
 abbrev pub GoesToListed : Areas → List OpenStore → (at address : ℕ) → Type 0
 GoesToListed regions stores at address = (in_data regions address ≡ true) ⊎ Any (λ store. (store.at ≡ at) × Within store.span address) stores
 
--- an address is in STACK, and among so many bytes just below its top
+-- an address is in STACK, and among the `bytes` bytes just below its top
 pub record IsOnStack (image : Located) (bytes address : ℕ) : Type 0 where
   pub in_stack : in_range image.regions.stack address ≡ true
   pub below : IsJustBelow (top_of image.regions) bytes address
@@ -48,7 +48,7 @@ pub record KeepsFollowed (image : Located) (interrupted : Bool) (bytes : ℕ) (w
   pub goes_on : found.instr ≢ Hlt → (IsLeftOpenAt listed w.machine.cpu.pc → StaysInside image.regions w.machine found.instr) →
       (byte : ℕ) → byte < 256 → IsFollowed image.regions (IsLeftOpenAt listed) byte w
 
--- an interrupt finds SP set, and at most so many bytes below the stack's top
+-- an interrupt finds SP set, and at most `bytes` bytes below the stack's top
 pub record IsReady (image : Located) (bytes : ℕ) (set : Bool) (w : World) : Type 0 where
   pub is_set : set ≡ true
   pub count : ℕ

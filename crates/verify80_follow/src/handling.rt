@@ -277,7 +277,7 @@ fn follows_live_marked(
     are_all_handled(alloc, image, table, handlers, looked, most)
 }
 
-/// Whether an image's stack has room for so many bytes, and others below them.
+/// Whether an image's stack has room for a number of bytes, and others below them.
 fn has_room_for(image: &Image, main: u16, most: u16) -> bool
     ensures { result ≡ true → main + most ≤ image.now.regions.stack.length }
 {

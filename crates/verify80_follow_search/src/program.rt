@@ -42,7 +42,7 @@ pub(crate) enum Procedure {
     Open,
     /// Its calls are followed.
     Followed,
-    /// Its calls are stepped over, by the summary at a place, with so many bytes on the stack.
+    /// Its calls are stepped over, by the summary at a place, with a number of bytes on the stack.
     Stepped { place: u32, bytes: u16 },
 }
 
