@@ -7,7 +7,7 @@
 //! | [`find_stores`] | goes over a vouched image, and answers which of its stores may leave data |
 //! | [`Stores`], [`OpenStore`] | what is found |
 //! | [`stores_text`] | the same, as it is printed |
-//! | [`Kind`], [`addresses_of_kind`], [`pointer_span`], [`is_target`], [`find_data_ends`], [`is_all_data`] | what is asked of stores and jumps by pairs, of any table of states |
+//! | [`Kind`], [`addresses_of_kind`], [`is_kind_at`], [`pointer_span`], [`is_target`], [`find_data_ends`], [`is_all_data`] | what is asked of stores and jumps by pairs, of any table of states |
 //! | [`first_outside_data`] | the first address of a range that is no data, so that it can't be quiet as a whole |
 //! | [`find_causes`], [`Cause`], [`Pointer`], [`Setter`], [`Reason`] | what sets the pairs of stores and jumps that are listed, and why nothing is known of them: advice |
 //! | [`SearchNotes`] | what the search for states noted, for that advice |
@@ -35,7 +35,7 @@ pub use data_ends::{find_data_ends, is_all_data};
 pub use finding::find_stores;
 pub use laws::watched_runs_go_as_listed;
 pub use lines::stores_text;
-pub use listing::{Kind, addresses_of_kind, is_target, pointer_span};
+pub use listing::{Kind, addresses_of_kind, is_kind_at, is_target, pointer_span};
 pub use reasons::Reason;
 pub use stores::{OpenStore, Stores};
 pub use verify80_proposals::SearchNotes;

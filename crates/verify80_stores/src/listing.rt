@@ -94,7 +94,7 @@ pub fn addresses_of_kind(
 }
 
 /// Whether an instruction of a kind is reached at an address.
-fn is_at(kind: Kind, reached: &[Option<Fetched>], at: u16) -> bool
+pub fn is_kind_at(kind: Kind, reached: &[Option<Fetched>], at: u16) -> bool
     ensures { result ≡ is_at (is_of kind) reached.now at }
 {
     entry_at(reached, at).is_some_and(|found| kind.has(found.instr))
@@ -116,7 +116,7 @@ fn is_listed(
 ) -> bool
     ensures { result ≡ is_listed (is_of kind) only_open reached.now notes.now at }
 {
-    (!only_open || note_at(notes, at).is_open) && is_at(kind, reached, at)
+    (!only_open || note_at(notes, at).is_open) && is_kind_at(kind, reached, at)
 }
 
 /// Whether an instruction in a state stores to data and jumps to a declared target, if it does so by a pair.
