@@ -7,7 +7,9 @@ use crate::follow::Asked;
 use crate::stops::stop_at;
 use image80::{Image, Range};
 use std::alloc::{AllocError, Global};
-use verify80_follow::{Handler, LiveRun, RunKind, Table, follows, follows_live};
+use verify80_follow::{
+    Handler, LiveRun, RunKind, Table, follows, follows_live, is_listed_in_order,
+};
 use verify80_follow_search::{
     Budget, SearchResult, Stop, StopReason, list_together, places_anew, search, search_handler,
     written_ranges,
@@ -200,7 +202,10 @@ fn keep_promise(
         is_set: found.is_set,
         most: found.most,
     };
-    follows_live(alloc, image, &found.table, &found.handlers, run)
+    Ok(
+        follows_live(alloc, image, &found.table, &found.handlers, run)?
+            && is_listed_in_order(alloc, image, &found.table, &found.handlers)?,
+    )
 }
 
 /// Searches for a table that follows the program of `image` from its start, and from the places at which handlers begin it anew: with SP anywhere at
@@ -250,7 +255,9 @@ fn table_from(
 {
     match search(alloc, image, quiet, run, anew, budget)? {
         SearchResult::Found(table) => {
-            if follows(alloc, image, &table, quiet, run)? {
+            if follows(alloc, image, &table, quiet, run)?
+                && is_listed_in_order(alloc, image, &table, &[])?
+            {
                 Ok(Followed::By(table, run.is_set))
             } else {
                 Ok(Followed::Stopped(stop_at(alloc, image, StopReason::Unfit)))

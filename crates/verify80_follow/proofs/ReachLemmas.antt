@@ -1,13 +1,15 @@
 -- A table of instructions by address, while those of states are noted in it.
-use Rattle.std.specs.Prelude.{◌≡◌, ◌≢◌, ◌≤◌, ◌<◌, ◌+◌, ℕ, List, Option, None, Some, Result, Ok, Err, Any, length, replicate, slice_index_or, slice_set}
-use Rattle.std.specs.Result.{result_ok}
-use Rattle.std.proofs.Common.{◌∙◌, ap, arith, inl, inr, subst, sym}
-use Rattle.std.proofs.lemmas.Bool.{cases_lt, cases_eq}
+use Rattle.std.specs.Prelude.{◌≡◌, ◌≢◌, ◌≤◌, ◌<◌, ◌+◌, ℕ, Bool, true, false, List, Option, None, Some, Result, Ok, Err, AllPairs, Any, length, replicate, slice_index_or, slice_set}
+use Rattle.std.specs.{List.IsAllAdjacentAnswer, List.list_all, Result.result_ok}
+use Rattle.std.proofs.Common.{◌∙◌, ap, arith, get_or, inl, inr, nat_lt, refl, subst, sym}
+use Rattle.std.proofs.lemmas.Bool.{cases_lt, cases_eq, ltb-true}
+use Rattle.std.proofs.lemmas.List.{Kept.AllPairs-from_increasing, Sums.AllPass-from_list_all}
 use Rattle.std.proofs.lemmas.List.{length-set, length-replicate, get_or-replicate, get_or-set_same, get_or-set_other, get_or_default, get_or_past}
-use Rattle.decode80.specs.declared.{fetching.Fetched.Fetched, fetching.FetchFault.FetchFault}
+use Rattle.decode80.specs.declared.{fetching.Fetched.Fetched, fetching.FetchFault.FetchFault, instr.Instr.Instr}
 use Rattle.image80.specs.{Image.Located, Image.memory_of}
 use Rattle.verify80.specs.{LookLaws.fetch_at, Reached.found_at}
-use Rattle.verify80_follow.specs.Reaching.{AreFollowed}
+use Rattle.verify80_stores.specs.Listing.{is_at, is_kind}
+use Rattle.verify80_follow.specs.Reaching.{AreAt, AreFollowed, HasAt}
 
 -- the instructions at which the first states stand are noted, and no others
 pub record AreNoted (image : Located) (states : List ℕ) (count : ℕ) (table : List (Option Fetched)) : Type 0 where
@@ -85,3 +87,25 @@ all_noted image states count table all noted = record {
   only = noted.only;
   each = λ k d within found is. noted.each k d found (omega (arith, within, all)) is;
 }
+
+-- addresses that ascend from each to the next
+pub ascending_is : (xs : List ℕ) (r : Bool) → IsAllAdjacentAnswer (λ a b t. t ≡ nat_lt a b) xs r → r ≡ true → AllPairs (λ a b. a < b) xs
+ascending_is xs true is same = AllPairs-from_increasing xs (λ k inside. ltb-true (get_or xs k 0) (get_or xs (k + 1) 0) (sym (is k 0 inside)))
+ascending_is xs false is same = absurd (cc)
+
+-- where an instruction of a kind is reached, one stands
+module _ (image : Located) (places : List ℕ) (reached : List (Option Fetched)) (kind : Instr → Bool) (followed : AreFollowed image places reached) where
+  has_by : (at : ℕ) (entry : Option Fetched) → found_at reached at ≡ entry → is_kind kind entry ≡ true → HasAt image places kind at
+  has_by at None same is = absurd (cc)
+  has_by at (Some found) same is = record {
+    placed = (followed.only at found same).0;
+    found = found;
+    fetched = (followed.only at found same).1;
+    is = is;
+  }
+
+  pub are_at : (addresses : List ℕ) → AllPairs (λ a b. a < b) addresses → list_all (is_at kind reached) addresses ≡ true → AreAt image places kind addresses
+  are_at addresses ascending all = record {
+    ascending = ascending;
+    each = λ k d inside. has_by (get_or addresses k d) (found_at reached (get_or addresses k d)) refl (AllPass-from_list_all (is_at kind reached) addresses all k d inside);
+  }

@@ -13,7 +13,7 @@
 //! | [`Table`], [`RunKind`], [`follows`] | whether a table follows an image |
 //! | [`Summary`], [`called`], [`is_last`] | tables that follow procedures, by which calls are stepped over |
 //! | [`Handler`], [`LiveRun`], [`follows_live`], [`gives_back`], [`uses_pointer`] | whether handlers give all back, wherever the stack is when they are entered, or begin the program anew |
-//! | [`places_of`], [`followed_instructions`] | the instructions to which a followed program may come |
+//! | [`places_of`], [`followed_instructions`], [`is_listed_in_order`] | the instructions to which a followed program may come, and whether what is left open is among them |
 //! | [`followed_stores`], [`bounds_text`], [`live_text`], [`ways_text`] | what is printed of a program that is followed |
 //! | [`followed_programs_keep_the_promise`], [`live_machines_keep_the_promise`] | the promises, as contracts |
 #![tactic(auto)]
@@ -38,5 +38,5 @@ pub use held::{Beside, HeldPair, beside_then};
 pub use interrupts::enabled_after;
 pub use laws::{followed_programs_keep_the_promise, live_machines_keep_the_promise};
 pub use lines::{bounds_text, followed_stores, live_text, ways_text};
-pub use reaching::{followed_instructions, places_of};
+pub use reaching::{followed_instructions, is_listed_in_order, places_of};
 pub use stack::{StackAfter, StackBounds, return_address, stack_then, top_of_stack};

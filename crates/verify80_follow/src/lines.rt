@@ -1,18 +1,19 @@
 //! What is printed of a program that is followed.
 
-ghost use Rattle.std.specs.Prelude.{◌≡◌, ◌++◌, IfOk, OnOk, length};
+ghost use Rattle.std.specs.Prelude.{◌≡◌, ◌++◌, IfOk, OnOk, length, map};
 ghost use Rattle.std.specs.List.{flat_map};
 ghost use Rattle.verify80_follow.specs.{FollowText.bounds_lines, FollowText.handler_line, FollowText.handlers_line, FollowText.live_lines};
-ghost use Rattle.verify80_follow.specs.{FollowText.pair_line, FollowText.way_line, FollowText.ways_lines, FollowText.written_line, Reaching.AreStoresFollowed};
+ghost use Rattle.verify80_follow.specs.{FollowText.pair_line, FollowText.way_line, FollowText.ways_lines, FollowText.written_line, Reaching.AreStoresFollowed, Reaching.with_instr};
 
 use crate::fit::Table;
 use crate::followed::{Listed, Way};
 use crate::handling::Handler;
-use decode80::Fetched;
+use decode80::{Fetched, Instr};
 use image80::Range;
 use std::alloc::{AllocError, Global};
 use text80::word_digits;
-use verify80_stores::{Kind, Stores, addresses_of_kind};
+use verify80_states::entry_at;
+use verify80_stores::{Kind, OpenStore, Stores, addresses_of_kind};
 
 /// The lines of a table: how many states it has, and how many bytes the stack has at most, of how many, such as `FOLLOWED 146 STATES` and
 /// `STACK 4 OF 256 AT MOST`; and of a
@@ -139,12 +140,34 @@ pub fn followed_stores(
 {
     Ok(Stores {
         addresses: addresses_of_kind(alloc, Kind::Store, reached)?,
-        open: listed.stores.iter().copied().collect(alloc)?,
+        open: with_instructions(alloc, &listed.stores, reached)?,
         jumps: addresses_of_kind(alloc, Kind::Jump, reached)?,
         open_jumps: listed.jumps.iter().copied().collect(alloc)?,
         sets_stack,
         search: None,
     })
+}
+
+/// Open stores with the instructions that are reached at their addresses.
+fn with_instructions(
+    alloc: Global,
+    stores: &[OpenStore],
+    reached: &[Option<Fetched>],
+) -> Result<Vec<OpenStore>, AllocError>
+    ensures { IfOk result (λ open. open.items ≡ map (with_instr reached.now) stores.now) }
+{
+    stores
+        .iter()
+        .map(|store| with_instruction(*store, reached))
+        .collect(alloc)
+}
+
+/// An open store with the instruction that is reached at its address.
+fn with_instruction(store: OpenStore, reached: &[Option<Fetched>]) -> OpenStore
+    ensures { result ≡ with_instr reached.now store.entry }
+{
+    let instr = entry_at(reached, store.at).map_or(Instr::Nop, |found| found.instr);
+    OpenStore { instr, ..store }
 }
 
 /// The line of each way of a program's table and of its handlers' tables that goes to no address behind a call, such as `WAY 3007 300A`.

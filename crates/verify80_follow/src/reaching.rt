@@ -1,11 +1,12 @@
 //! The instructions to which a program may come that a table follows, and its handlers.
 
-ghost use Rattle.std.specs.Prelude.{◌≡◌, ◌<◌, IfOk, OnOk, length, map, slice_set, ◌++◌};
-ghost use Rattle.std.specs.List.{flat_map};
+ghost use Rattle.std.specs.Prelude.{◌≡◌, ◌<◌, AllPairs, IfOk, OnOk, length, map, slice_set, true, ◌++◌};
+ghost use Rattle.std.specs.List.{flat_map, list_all};
 ghost use Rattle.std.specs.Result.{result_ok};
 ghost use Rattle.image80.specs.Image.{memory_of};
 ghost use Rattle.verify80.specs.LookLaws.{fetch_at};
-ghost use Rattle.verify80_follow.specs.Reaching.{AreFollowed, places_of};
+ghost use Rattle.verify80_stores.specs.Listing.{is_at, is_of};
+ghost use Rattle.verify80_follow.specs.Reaching.{AreFollowed, AreListed, places_of};
 
 use crate::calls::Summary;
 use crate::fit::Table;
@@ -15,6 +16,7 @@ use decode80::{Fetched, fetch};
 use image80::Image;
 use std::alloc::{AllocError, Global};
 use verify80::ImageCode;
+use verify80_stores::{Kind, OpenStore, is_kind_at};
 
 /// Where the states of a program's table stand, those of its summaries, and those of its handlers' tables.
 ///
@@ -78,4 +80,53 @@ fn note(reached: &mut Vec<Option<Fetched>>, program: &ImageCode<'_>, at: u16)
     ensures set { reached.new.items ≡ slice_set reached.old.items at (result_ok (fetch_at program.now.regions (memory_of program.now.chunks) at)) }
 {
     reached[usize::from(at)] = fetch(at, program).ok();
+}
+
+/// Whether what the table of a program leaves open is listed by address: stores by register pairs, and PCHLs, each where a state of the table or of
+/// a handler's table stands.
+///
+/// # Errors
+/// `AllocError` if memory runs out.
+pub fn is_listed_in_order(
+    alloc: Global,
+    image: &Image,
+    table: &Table,
+    handlers: &[Handler],
+) -> Result<bool, AllocError>
+    ensures { IfOk result (λ is_listed. is_listed ≡ true → AreListed image.now (places_of table.now handlers.now) table.now.listed) }
+{
+    let places = places_of(alloc, table, handlers)?;
+    let reached = followed_instructions(alloc, image, &places)?;
+    let stores = addresses_of(alloc, &table.listed.stores)?;
+    Ok(are_in_order(Kind::Store, &stores, &reached)
+        && are_in_order(Kind::Jump, &table.listed.jumps, &reached))
+}
+
+/// The addresses of open stores.
+fn addresses_of(alloc: Global, stores: &[OpenStore]) -> Result<Vec<u16>, AllocError>
+    ensures { IfOk result (λ addresses. addresses.items ≡ map (λ store. store.at) stores.now) }
+{
+    stores.iter().map(|store| store.at).collect(alloc)
+}
+
+/// Whether addresses ascend, and an instruction of a kind is reached at each.
+fn are_in_order(kind: Kind, addresses: &[u16], reached: &[Option<Fetched>]) -> bool
+    ensures ascending { result ≡ true → AllPairs (λ a b. a < b) addresses.now }
+    ensures each { result ≡ true → list_all (is_at (is_of kind) reached.now) addresses.now ≡ true }
+{
+    ascend(addresses) && are_reached(kind, addresses, reached)
+}
+
+/// Whether addresses ascend.
+fn ascend(addresses: &[u16]) -> bool
+    ensures { result ≡ true → AllPairs (λ a b. a < b) addresses.now }
+{
+    addresses.is_sorted_by(|at, next| at < next)
+}
+
+/// Whether an instruction of a kind is reached at each of these addresses.
+fn are_reached(kind: Kind, addresses: &[u16], reached: &[Option<Fetched>]) -> bool
+    ensures { result ≡ list_all (is_at (is_of kind) reached.now) addresses.now }
+{
+    addresses.iter().all(|at| is_kind_at(kind, reached, *at))
 }
