@@ -154,7 +154,7 @@ fn with_instructions(
     stores: &[OpenStore],
     reached: &[Option<Fetched>],
 ) -> Result<Vec<OpenStore>, AllocError>
-    ensures { IfOk result (λ open. open.items ≡ map (with_instr reached.now) stores.now) }
+    ensures { IfOk result (λ copies. copies.items ≡ map (with_instr reached.now) stores.now) }
 {
     stores
         .iter()

@@ -98,8 +98,10 @@ pub fn is_listed_in_order(
     let places = places_of(alloc, table, handlers)?;
     let reached = followed_instructions(alloc, image, &places)?;
     let stores = addresses_of(alloc, &table.listed.stores)?;
-    Ok(are_in_order(Kind::Store, &stores, &reached)
-        && are_in_order(Kind::Jump, &table.listed.jumps, &reached))
+    Ok(
+        are_in_order(Kind::Store, &stores, &reached)
+            && are_in_order(Kind::Jump, &table.listed.jumps, &reached),
+    )
 }
 
 /// The addresses of open stores.
