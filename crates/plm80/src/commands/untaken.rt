@@ -1,0 +1,131 @@
+//! Whether clap takes the words of a command line, asked of commands without the `--board` that stands in place of other arguments, and of those
+//! with it alone: there no argument has a rule on another, so what clap takes is known.
+
+ghost use Rattle.std.specs.Prelude.{◌≡◌, true, false, filter_map, map, option_map, string_bytes, IfOk};
+ghost use Rattle.clap.specs.{Simple.app_of, Takes.takes};
+ghost use Rattle.plm80_console.specs.SyntaxTable.{rule_of_argument, shape_of_syntax};
+ghost use Rattle.plm80.specs.CommandLine.{IsUntaken, app_with, beside, commands, is_replaced, rule_beside};
+
+use super::program_syntax::{commands, program_of};
+use clap::Command;
+use clap::error::ErrorKind;
+use plm80_console::{Argument, Kind, Syntax};
+use std::alloc::{AllocError, Global};
+
+/// Whether clap doesn't take these words, neither without a `--board` that stands in place of others nor with one.
+///
+/// # Errors
+/// `AllocError` only if memory runs out.
+pub(crate) fn is_untaken(alloc: Global, words: &[String]) -> Result<bool, AllocError>
+    ensures { IfOk result (λ untaken. untaken ≡ true → IsUntaken (map string_bytes words.now)) }
+{
+    Ok(is_untaken_beside(alloc, words, false)? && is_untaken_beside(alloc, words, true)?)
+}
+
+/// Whether clap doesn't take these words, without such a `--board` or, if it is `boarded`, with one.
+fn is_untaken_beside(alloc: Global, words: &[String], boarded: bool) -> Result<bool, AllocError>
+    ensures { IfOk result (λ untaken. untaken ≡ true → takes (app_with (map (beside boarded) commands)) (map string_bytes words.now) ≡ false) }
+{
+    let all = commands(alloc)?;
+    let arguments = arguments_of_all(alloc, &all, boarded)?;
+    let kept = with_arguments(alloc, &all, &arguments, boarded)?;
+    is_refused(program_of(alloc, "", &kept)?, words)
+}
+
+/// Whether a program doesn't take these words.
+fn is_refused(program: Command<'_>, words: &[String]) -> Result<bool, AllocError>
+    ensures { IfOk result (λ refused. refused ≡ true → takes (app_of program) (map string_bytes words.now) ≡ false) }
+{
+    match program.try_get_matches_from(words) {
+        Ok(_) => Ok(false),
+        Err(error) => match error.kind() {
+            ErrorKind::OutOfMemory => Err(AllocError),
+            _ => Ok(true),
+        },
+    }
+}
+
+/// The arguments of each command, without such a `--board`, or with it in place of others.
+fn arguments_of_all<'a>(
+    alloc: Global,
+    all: &[Syntax<'a>],
+    boarded: bool,
+) -> Result<Vec<Vec<Argument<'a>>>, AllocError>
+    ensures { IfOk result (λ kept. map (λ arguments. map rule_of_argument arguments.items) kept.items ≡ map (λ syntax. filter_map (rule_beside boarded) (map rule_of_argument syntax.arguments.now)) all.now) }
+{
+    let mut kept = Vec::new(alloc);
+    for syntax in all {
+        kept.push(arguments_beside(alloc, syntax.arguments, boarded)?)?;
+    }
+    Ok(kept)
+}
+
+/// Arguments of a command, without such a `--board`, or with it in place of others.
+fn arguments_beside<'a>(
+    alloc: Global,
+    arguments: &[Argument<'a>],
+    boarded: bool,
+) -> Result<Vec<Argument<'a>>, AllocError>
+    ensures { IfOk result (λ kept. map rule_of_argument kept.items ≡ filter_map (rule_beside boarded) (map rule_of_argument arguments.now)) }
+{
+    let mut kept = Vec::new(alloc);
+    for argument in arguments {
+        if let Some(argument) = argument_beside(*argument, boarded) {
+            kept.push(argument)?;
+        }
+    }
+    Ok(kept)
+}
+
+/// An argument, without such a `--board`, or with it in place of others; `None` if it isn't there then.
+fn argument_beside<'a>(argument: Argument<'a>, boarded: bool) -> Option<Argument<'a>>
+    ensures { option_map rule_of_argument result ≡ rule_beside boarded (rule_of_argument argument) }
+{
+    match argument.kind {
+        Kind::PathInPlaceOf(others) if !others.is_empty() => {
+            if boarded {
+                Some(Argument {
+                    kind: Kind::Required("FILE"),
+                    ..argument
+                })
+            } else {
+                None
+            }
+        }
+        _ if boarded && is_replaced(argument.name) => None,
+        _ => Some(argument),
+    }
+}
+
+/// Whether a `--board` stands in place of the argument of this name.
+fn is_replaced(name: &str) -> bool
+    ensures { result ≡ is_replaced name.now }
+{
+    name == "INPUTS"
+        || name == "last"
+        || name == "dump"
+        || name == "rom-range"
+        || name == "ram-range"
+        || name == "quiet-ram"
+        || name == "handler"
+}
+
+/// Commands with other arguments, those of each at its place.
+fn with_arguments<'a>(
+    alloc: Global,
+    all: &[Syntax<'a>],
+    arguments: &'a [Vec<Argument<'a>>],
+    boarded: bool,
+) -> Result<Vec<Syntax<'a>>, AllocError>
+    requires { map (λ of. map rule_of_argument of.items) arguments.now ≡ map (λ syntax. filter_map (rule_beside boarded) (map rule_of_argument syntax.arguments.now)) all.now }
+    ensures { IfOk result (λ kept. map shape_of_syntax kept.items ≡ map (beside boarded) (map shape_of_syntax all.now)) }
+{
+    let mut kept = Vec::new(alloc);
+    for number in 0..all.len() {
+        kept.push(Syntax {
+            arguments: &arguments[number],
+            ..all[number]
+        })?;
+    }
+    Ok(kept)
+}
