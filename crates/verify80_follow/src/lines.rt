@@ -164,7 +164,7 @@ fn with_instructions(
 
 /// An open store with the instruction that is reached at its address.
 fn with_instruction(store: OpenStore, reached: &[Option<Fetched>]) -> OpenStore
-    ensures { result ≡ with_instr reached.now store.entry }
+    ensures { result ≡ with_instr reached.now store }
 {
     let instr = entry_at(reached, store.at).map_or(Instr::Nop, |found| found.instr);
     OpenStore { instr, ..store }

@@ -1,14 +1,15 @@
 //! Whether clap takes the words of a command line, asked of commands without the `--board` that stands in place of other arguments, and of those
 //! with it alone: there no argument has a rule on another, so what clap takes is known.
 
-ghost use Rattle.std.specs.Prelude.{◌≡◌, true, false, filter_map, map, option_map, string_bytes, IfOk};
-ghost use Rattle.clap.specs.{Simple.app_of, Takes.takes};
+ghost use Rattle.std.specs.Prelude.{◌≡◌, ◌≢◌, ◌++◌, [], true, false, filter_map, map, option_map, string_bytes, IfOk, OnOk};
+ghost use Rattle.std.specs.List.{cons_option};
+ghost use Rattle.clap.specs.{Simple.app_of, Takes.takes, Values.kind_of};
 ghost use Rattle.plm80_console.specs.SyntaxTable.{rule_of_argument, shape_of_syntax};
 ghost use Rattle.plm80.specs.CommandLine.{IsUntaken, app_with, beside, commands, is_replaced, rule_beside};
 
 use super::program_syntax::{commands, program_of};
-use clap::Command;
 use clap::error::ErrorKind;
+use clap::{Command, Error};
 use plm80_console::{Argument, Kind, Syntax};
 use std::alloc::{AllocError, Global};
 
@@ -33,16 +34,23 @@ fn is_untaken_beside(alloc: Global, words: &[String], boarded: bool) -> Result<b
 }
 
 /// Whether a program doesn't take these words.
-fn is_refused(program: Command<'_>, words: &[String]) -> Result<bool, AllocError>
-    ensures { IfOk result (λ refused. refused ≡ true → takes (app_of program) (map string_bytes words.now) ≡ false) }
+fn is_refused<'a>(program: Command<'a>, words: &'a [String]) -> Result<bool, AllocError>
+    ensures { IfOk result (λ refused. refused ≡ true → takes (app_of program.entry) (map string_bytes words.now) ≡ false) }
 {
-    match program.try_get_matches_from(words) {
-        Ok(_) => Ok(false),
-        Err(error) => match error.kind() {
-            ErrorKind::OutOfMemory => Err(AllocError),
-            _ => Ok(true),
-        },
+    let Err(error) = program.try_get_matches_from(words) else {
+        return Ok(false);
+    };
+    blames_words(&error)
+}
+
+/// Whether an error of clap blames the words that it was given, as each does but for want of memory. `AllocError` for that.
+fn blames_words(error: &Error) -> Result<bool, AllocError>
+    ensures { IfOk result (λ _. kind_of error.now ≢ ErrorKind.OutOfMemory) }
+{
+    if error.kind() == ErrorKind::OutOfMemory {
+        return Err(AllocError);
     }
+    Ok(true)
 }
 
 /// The arguments of each command, without such a `--board`, or with it in place of others.
@@ -70,16 +78,27 @@ fn arguments_beside<'a>(
 {
     let mut kept = Vec::new(alloc);
     for argument in arguments {
-        if let Some(argument) = argument_beside(*argument, boarded) {
-            kept.push(argument)?;
-        }
+        push_any(&mut kept, argument_beside(*argument, boarded))?;
     }
     Ok(kept)
 }
 
+/// Appends an argument, if there is one.
+fn push_any<'a>(
+    arguments: &mut Vec<Argument<'a>>,
+    argument: Option<Argument<'a>>,
+) -> Result<(), AllocError>
+    ensures { OnOk result (arguments.new.items ≡ arguments.old.items ++ cons_option argument.entry []) }
+{
+    if let Some(argument) = argument {
+        arguments.push(argument)?;
+    }
+    Ok(())
+}
+
 /// An argument, without such a `--board`, or with it in place of others; `None` if it isn't there then.
 fn argument_beside<'a>(argument: Argument<'a>, boarded: bool) -> Option<Argument<'a>>
-    ensures { option_map rule_of_argument result ≡ rule_beside boarded (rule_of_argument argument) }
+    ensures { option_map rule_of_argument result ≡ rule_beside boarded (rule_of_argument argument.entry) }
 {
     match argument.kind {
         Kind::PathInPlaceOf(others) if !others.is_empty() => {
@@ -122,10 +141,18 @@ fn with_arguments<'a>(
 {
     let mut kept = Vec::new(alloc);
     for number in 0..all.len() {
-        kept.push(Syntax {
-            arguments: &arguments[number],
-            ..all[number]
-        })?;
+        kept.push(with_these(&all[number], &arguments[number]))?;
     }
     Ok(kept)
+}
+
+/// A command with other arguments.
+fn with_these<'a>(syntax: &Syntax<'a>, arguments: &'a [Argument<'a>]) -> Syntax<'a>
+    ensures name { result.name.now ≡ syntax.now.name.now }
+    ensures arguments { result.arguments.now ≡ arguments.now }
+{
+    Syntax {
+        arguments,
+        ..*syntax
+    }
 }
