@@ -165,7 +165,7 @@ module _ (image : Located) (table : Table) (written quiet : ℕ → Bool) (most 
       All-contains (Among h.table.bytes) (h.at ∷ []) at (All-cons (Among h.table.bytes) h.at [] (among_all k d inside h.table.bytes (omega arith)) (All-nil (Among h.table.bytes))) there
 
 -- tables that fit with some quiet addresses fit with more
-pub fit_of_more : (image : Located) (interrupted : Bool) (quiet other : ℕ → Bool) (is_set : Bool) (table : Table) → ((at : ℕ) → quiet at ≡ true → other at ≡ true) → IsFit image interrupted quiet is_set table → IsFit image interrupted other is_set table
+abbrev pub fit_of_more : (image : Located) (interrupted : Bool) (quiet other : ℕ → Bool) (is_set : Bool) (table : Table) → ((at : ℕ) → quiet at ≡ true → other at ≡ true) → IsFit image interrupted quiet is_set table → IsFit image interrupted other is_set table
 fit_of_more image interrupted quiet other is_set table more fit = record { marked = fit.marked; within = λ at here. more at (fit.within at here); follows = fit.follows; summaries = fit.summaries; room = fit.room }
 
 pub are_fit_of_more : (image : Located) (quiet other written wider : ℕ → Bool) (is_set : Bool) (table : Table) (handlers : List Handler) (most : ℕ) →
