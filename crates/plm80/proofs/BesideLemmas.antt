@@ -4,10 +4,11 @@ use Rattle.std.specs.List.{cons_option}
 use Rattle.std.proofs.Common.{◌∙◌, ap, get_or, refl, sym}
 use Rattle.std.proofs.lemmas.List.{get_or-map, map-append, map_more}
 use Rattle.std.proofs.lemmas.List.Elements.{filter_map-append}
-use Rattle.clap.specs.{Simple.Shape, Walk.Rule}
+use Rattle.clap.proofs.OnLiterals.{clap_on_literals}
+use Rattle.clap.specs.{Faults.is_simple_and_free, Simple.Shape, Takes.takes, Walk.Rule}
 use Rattle.plm80_console.specs.SyntaxTable.{flag, rule_of_argument, shape_of_syntax}
 use Rattle.plm80_console.specs.declared.syntax.{Argument.Argument, Syntax.Syntax}
-use Rattle.plm80.specs.CommandLine.{beside, rule_beside}
+use Rattle.plm80.specs.CommandLine.{IsUntaken, app_with, beside, commands, rule_beside}
 
 -- one argument more, if it stays
 pub more_stay : (boarded : Bool) (arguments kept : List Argument) (i : ℕ) (d : Argument) (more : Option Argument) → i < length arguments
@@ -73,3 +74,14 @@ one_more items boarded all kept arguments i d new e same inside within so_far na
 pub ok_weaker : {A E : Type 0} (r : Result A E) (P Q : A → Type 0) → ((x : A) → P x → Q x) → IfOk r P → IfOk r Q
 ok_weaker (Ok x) P Q more holds = more x holds
 ok_weaker (Err e) P Q more holds = tt
+
+-- what clap takes of these commands is known exactly: they are simple, and no argument has a rule on another
+pub exact : (boarded : Bool) → is_simple_and_free (app_with (map (beside boarded) commands)) ≡ true
+unfolding clap_on_literals
+exact true = refl
+exact false = refl
+
+-- words that clap takes neither without a board nor with one
+pub both_untaken : (words : List (List ℕ)) → takes (app_with (map (beside false) commands)) words ≡ false → takes (app_with (map (beside true) commands)) words ≡ false → IsUntaken words
+both_untaken words without with true = with
+both_untaken words without with false = without

@@ -1,9 +1,9 @@
 //! Whether clap takes the words of a command line, asked of commands without the `--board` that stands in place of other arguments, and of those
 //! with it alone: there no argument has a rule on another, so what clap takes is known.
 
-ghost use Rattle.std.specs.Prelude.{◌≡◌, ◌≢◌, ◌++◌, [], true, false, filter_map, map, option_map, string_bytes, IfOk, OnOk};
+ghost use Rattle.std.specs.Prelude.{◌≡◌, ◌≢◌, ◌++◌, Bool, [], true, false, filter_map, map, option_map, string_bytes, IfOk, OnOk};
 ghost use Rattle.std.specs.List.{cons_option};
-ghost use Rattle.clap.specs.{Simple.app_of, Takes.takes, Values.kind_of};
+ghost use Rattle.clap.specs.{Faults.is_simple_and_free, Simple.app_of, Takes.takes, Values.kind_of};
 ghost use Rattle.plm80_console.specs.SyntaxTable.{rule_of_argument, shape_of_syntax};
 ghost use Rattle.plm80.specs.CommandLine.{IsUntaken, app_with, beside, commands, is_replaced, rule_beside};
 
@@ -20,8 +20,18 @@ use std::alloc::{AllocError, Global};
 pub(crate) fn is_untaken(alloc: Global, words: &[String]) -> Result<bool, AllocError>
     ensures { IfOk result (λ untaken. untaken ≡ true → IsUntaken (map string_bytes words.now)) }
 {
-    Ok(is_untaken_beside(alloc, words, false)? && is_untaken_beside(alloc, words, true)?)
+    taken_words_are_known();
+    if !is_untaken_beside(alloc, words, false)? {
+        return Ok(false);
+    }
+    is_untaken_beside(alloc, words, true)
 }
+
+/// Which words clap takes of these commands is known: they are simple, and no argument of one has a rule on another. (A law: it does
+/// nothing.)
+fn taken_words_are_known()
+    ensures { (boarded : Bool) → is_simple_and_free (app_with (map (beside boarded) commands)) ≡ true }
+{}
 
 /// Whether clap doesn't take these words, without such a `--board` or, if it is `boarded`, with one.
 fn is_untaken_beside(alloc: Global, words: &[String], boarded: bool) -> Result<bool, AllocError>
