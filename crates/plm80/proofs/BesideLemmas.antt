@@ -83,5 +83,5 @@ exact false = refl
 
 -- words that clap takes neither without a board nor with one
 pub both_untaken : (words : List (List ℕ)) → takes (app_with (map (beside false) commands)) words ≡ false → takes (app_with (map (beside true) commands)) words ≡ false → IsUntaken words
-both_untaken words without with true = with
-both_untaken words without with false = without
+both_untaken words without boarded true = boarded
+both_untaken words without boarded false = without
