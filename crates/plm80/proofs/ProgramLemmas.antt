@@ -1,5 +1,5 @@
 -- A program of clap with commands of a table.
-use Rattle.std.specs.Prelude.{◌≡◌, ℕ, ◌+◌, ◌<◌, List, [], ◌∷◌, ◌++◌, Bool, false, true, codes, length, map, take}
+use Rattle.std.specs.Prelude.{◌≡◌, ℕ, ◌+◌, ◌<◌, List, [], ◌∷◌, ◌++◌, Bool, false, true, length, map, take}
 use Rattle.std.proofs.Common.{◌∙◌, ap, ap₂, arith, get_or, ne_eqb, refl, sym}
 use Rattle.std.proofs.lemmas.List.{map_more}
 use Rattle.clap.proofs.{SimpleLemmas.is_false, WalkLemmas.both}

@@ -10,7 +10,7 @@ ghost use Rattle.plm80.specs.CommandLine.{IsUntaken, app_with, beside, commands,
 use super::program_syntax::{commands, program_of};
 use clap::error::ErrorKind;
 use clap::{Command, Error};
-use plm80_console::{Argument, Kind, Syntax};
+use plm80_console::{Argument, Kind, Syntax, push_copies};
 use std::alloc::{AllocError, Global};
 
 /// Whether clap doesn't take these words, neither without a `--board` that stands in place of others nor with one.
@@ -40,7 +40,9 @@ fn is_untaken_beside(alloc: Global, words: &[String], boarded: bool) -> Result<b
     let all = commands(alloc)?;
     let arguments = arguments_of_all(alloc, &all, boarded)?;
     let kept = with_arguments(alloc, &all, &arguments, boarded)?;
-    is_refused(program_of(alloc, "", &kept)?, words)
+    let mut copies = Vec::new(alloc);
+    push_copies(alloc, words, &mut copies)?;
+    is_refused(program_of(alloc, "", &kept)?, &copies)
 }
 
 /// Whether a program doesn't take these words.
@@ -142,8 +144,8 @@ fn is_replaced(name: &str) -> bool
 /// Commands with other arguments, those of each at its place.
 fn with_arguments<'a>(
     alloc: Global,
-    all: &[Syntax<'a>],
-    arguments: &'a [Vec<Argument<'a>>],
+    all: &[Syntax<'static>],
+    arguments: &'a [Vec<Argument<'static>>],
     boarded: bool,
 ) -> Result<Vec<Syntax<'a>>, AllocError>
     requires { map (λ of. map rule_of_argument of.items) arguments.now ≡ map (λ syntax. filter_map (rule_beside boarded) (map rule_of_argument syntax.arguments.now)) all.now }
@@ -157,7 +159,7 @@ fn with_arguments<'a>(
 }
 
 /// A command with other arguments.
-fn with_these<'a>(syntax: &Syntax<'a>, arguments: &'a [Argument<'a>]) -> Syntax<'a>
+fn with_these<'a>(syntax: &Syntax<'static>, arguments: &'a [Argument<'static>]) -> Syntax<'a>
     ensures name { result.name.now ≡ syntax.now.name.now }
     ensures arguments { result.arguments.now ≡ arguments.now }
 {

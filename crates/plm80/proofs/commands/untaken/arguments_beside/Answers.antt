@@ -1,8 +1,3 @@
-use Rattle.std.proofs.Common.{◌∙◌, ap}
-use Rattle.std.proofs.lemmas.List.{get_or_default}
-use Rattle.plm80_console.specs.SyntaxTable.{rule_of_argument}
-use Rattle.plm80_console.specs.declared.syntax.Argument.{Argument}
-use Rattle.plm80.specs.CommandLine.{rule_beside}
 use Rattle.plm80.proofs.BesideLemmas.{more_stay}
 use Rattle.plm80.proofs.commands.untaken.arguments_beside.Goals as goal
 

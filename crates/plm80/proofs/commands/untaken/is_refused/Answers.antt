@@ -1,5 +1,5 @@
 use Rattle.clap.specs.declared.error.kind.ErrorKind.TheVariants.{OutOfMemory}
-use Rattle.std.specs.Prelude.{◌≡◌, ◌≢◌, Bool, false, true, IfOk, map, string_bytes}
+use Rattle.std.specs.Prelude.{◌≡◌, ◌≢◌, false, true, map, string_bytes}
 use Rattle.clap.specs.{Simple.app_of, Takes.takes, Values.kind_of}
 use Rattle.plm80.proofs.BesideLemmas.{ok_weaker}
 use Rattle.plm80.proofs.SpelledLemmas.{not_taken}

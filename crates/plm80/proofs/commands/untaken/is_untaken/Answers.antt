@@ -1,5 +1,4 @@
-use Rattle.std.specs.Prelude.{◌≡◌, Bool, false, true, IfOk, map, string_bytes}
-use Rattle.std.proofs.Common.{refl}
+use Rattle.std.specs.Prelude.{◌≡◌, false, true, map, string_bytes}
 use Rattle.clap.specs.Takes.{takes}
 use Rattle.plm80.specs.CommandLine.{IsUntaken, app_with, beside, commands}
 use Rattle.plm80.proofs.BesideLemmas.{both_untaken, ok_weaker}
