@@ -5,7 +5,7 @@
 //!
 //! | Item | What it is |
 //! |---|---|
-//! | [`transcribe_on_board`], [`BoardReply`], [`BoardOutcome`] | an image runs on a board; the transcript |
+//! | [`transcribe_on_board`], [`BoardTranscript`] | an image runs on a board; the transcript |
 //! | [`write_board_lines`] | the lines of some of a run's instructions, written as they come |
 //! | [`count_board_steps`], [`BoardCounts`] | how often a run begins the instruction at each address |
 //! | [`BoardEnded`] | how a run ended, or was stopped |
@@ -24,6 +24,6 @@ mod transcript;
 
 pub use counting::{BoardCounts, count_board_steps};
 pub use ended::BoardEnded;
-pub use running::{BoardOutcome, BoardReply, transcribe_on_board};
+pub use running::{BoardTranscript, transcribe_on_board};
 pub use tracing::write_board_lines;
 pub use transcript::{board_ending_text, board_transcript_text};

@@ -121,14 +121,14 @@ module _ {paths : BoardFiles} {old between : Journal} {board : List Line} {image
       let Answers = IfGiven (AnswersAmongDevices Part) (Some board) in
       let asked = asks_names paths.program in
       let none : IsMisplaced board image.regions number → (answer : AnswerValue)
-          → AnswersProgram Answers asked (program_files read.program new) answer → ⊥ =
+      → AnswersProgram Answers asked (program_files read.program new) answer → ⊥ =
       λ at answer answers.
       misplaced_or_data board image.regions number at
       (subst (λ (regions : Areas). DevicesAreData board regions) (same_regions read.program new Answers one answer answers) answers.answers.devices) in
       (gives_on_board (Some paths.board) (λ given. AnswersProgram (IfGiven (AnswersAmongDevices Part) given) asked) (program_paths paths.program)
-          old read.between new (Some board) read.is_board {E = Unit {0}} (Err tt) tt
-          (more_given_up_or_blamed read.program new Answers (AnswersProgram Answers asked) (λ files answer answers. answers) read.between refl
-          {E = Unit {0}} (Err tt) none (blamed misplaced is))).1
+      old read.between new (Some board) read.is_board {E = Unit {0}} (Err tt) tt
+      (more_given_up_or_blamed read.program new Answers (AnswersProgram Answers asked) (λ files answer answers. answers) read.between refl
+      {E = Unit {0}} (Err tt) none (blamed misplaced is))).1
 
 module _ (Answers : AnswerValue → Type 0) (old new : Journal) where
   -- the answer of a run that was printed

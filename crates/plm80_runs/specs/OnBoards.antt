@@ -7,9 +7,8 @@ use Rattle.image80.specs.Image.{Located, memory_of}
 use Rattle.image80_text.specs.NameText.{labelled_text}
 use Rattle.loader80_board.specs.{BoardCounts.IsCounted, declared.counting.BoardCounts.BoardCounts}
 use Rattle.loader80_board.specs.BoardLines.{AreFirstLinesOf, AreLinesOf, IsTraced}
-use Rattle.loader80_board.specs.{OnBoards.StandsOnBoard, declared.running.BoardOutcome.BoardOutcome}
 use Rattle.loader80_board.specs.BoardTranscript.{IsRunTranscript, board_end_line}
-use Rattle.loader80_board.specs.declared.ended.BoardEnded.{BoardEnded}
+use Rattle.loader80_board.specs.{OnBoards.StandsOnBoard, declared.ended.BoardEnded.BoardEnded}
 use Rattle.loader80_trace.specs.{Cover.cover_lines, Cover.sums_line, declared.limits.Limits.Limits, declared.limits.Span.Span}
 use Rattle.machine80.specs.World.{World}
 use Rattle.machine80_board.specs.BoardRun.{BoardState, DevicesAreData, IsReached, board_start}
@@ -141,11 +140,10 @@ IsJudged image publics (Refused line) = IsRefusal image publics line.items
 -- The transcript of the program's run on the board is printed behind its first line, with a name in its last one; it has the program's
 -- bytes of stack, and the status is the run's.
 pub record TranscribesRun (limits : Limits) (lines : List Line) (publics : List Public) (program : Runnable) (answer : AnswerValue) : Type 0 where
-  pub outcome : BoardOutcome
+  pub ended : BoardEnded
   pub text : List ℕ
-  pub stack : outcome.stack_bytes ≡ stack_bytes_of program
-  pub transcript : IsRunTranscript lines (image_of program) limits.outputs limits.steps outcome text
-  pub answer_is : answer ≡ prints (first_line program ++ named_ending (image_of program).regions.code publics text) (board_end_status outcome.end)
+  pub transcript : IsRunTranscript lines (image_of program) (stack_bytes_of program) limits ended text
+  pub answer_is : answer ≡ prints (first_line program ++ named_ending (image_of program).regions.code publics text) (board_end_status ended.end)
 
 pub record RunsOnBoard (arguments : BoardRunArguments) (files : List FileValue) (answer : AnswerValue) : Type 0 where
   pub limits : Limits

@@ -15,7 +15,7 @@ use crate::runnable::Runnable;
 use crate::status::{BoardEndWords, board_status_of};
 use board80::Board;
 use clap::ArgMatches;
-use loader80_board::transcribe_on_board;
+use loader80_board::{BoardTranscript, transcribe_on_board};
 use loader80_trace::Limits;
 use plm80_console::{Answer, Console, Reported};
 use plm80_names::Names;
@@ -98,19 +98,18 @@ fn transcribe(
     ensures { IfOk result (λ ran. TranscribesRun limits board.now names.now program.now ran.answer) }
 {
     let image = program.image();
-    let reply = transcribe_on_board(
+    let BoardTranscript { ended, text } = transcribe_on_board(
         alloc,
         image,
         program.stack_bytes(),
         board,
         limits,
     )?;
-    let outcome = reply.outcome;
-    let named = name_ending(alloc, image.regions.code(), reply.text.into_bytes(), names)?;
+    let named = name_ending(alloc, image.regions.code(), text.into_bytes(), names)?;
     let mut lines = program.first_line(alloc)?;
     lines.extend_from_slice(&named)?;
     Ok(Ran {
-        answer: Answer::prints(lines, board_status_of(outcome.end)),
-        end: BoardEndWords::of(outcome.end, outcome.at),
+        answer: Answer::prints(lines, board_status_of(ended.end)),
+        end: BoardEndWords::of(ended.end, ended.at),
     })
 }

@@ -118,7 +118,15 @@ fn write_trace<K: Sink>(
         numbered: true,
         publics: names.publics(),
     };
-    write_board_lines(alloc, program.image(), board, trace.limits, trace.span, form, out)
+    write_board_lines(
+        alloc,
+        program.image(),
+        board,
+        trace.limits,
+        trace.span,
+        form,
+        out,
+    )
 }
 
 /// Writes the first line of a program, if it has one.

@@ -96,10 +96,7 @@ pub struct Ran {
 }
 
 /// Prints the answer of a run, says how the run ended, and returns the exit status; or reports that memory ran out.
-pub fn print_ran<C: Console>(
-    console: &mut C,
-    ran: Result<Ran, AllocError>,
-) -> Result<u8, Reported>
+pub fn print_ran<C: Console>(console: &mut C, ran: Result<Ran, AllocError>) -> Result<u8, Reported>
     ensures done { IfOk result (λ status. IsOkAnd ran (λ it. IsGiven it.answer (C.journal console.old) (C.journal console.new) status)) }
     ensures fault { IfErr result (λ _. IsGivenUp (λ answer. IsOkAnd ran (λ it. answer ≡ it.answer)) (C.journal console.old) (C.journal console.new)) }
 {
@@ -112,4 +109,3 @@ pub fn print_ran<C: Console>(
         Err(AllocError) => Err(console.report_memory()),
     }
 }
-
