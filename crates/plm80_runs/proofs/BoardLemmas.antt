@@ -51,8 +51,7 @@ device_among (other ∷ before) line after address is =
 misplaced_or_data : (lines : List Line) (regions : Areas) (number : ℕ) → IsMisplaced lines regions number → DevicesAreData lines regions → ⊥
 misplaced_or_data lines regions number is devices =
     let there = ap (λ (ls : List Line). in_device ls is.address) is.cut ∙ device_among is.before is.line is.after is.address is.device in
-    let inside = devices is.address there in
-    let outside = is.outside in
+    let never : true ≡ false = sym (devices is.address there) ∙ is.outside in
     absurd cc
 
 -- ---- answers
