@@ -26,7 +26,7 @@ use Rattle.plm80_names.specs.VerdictLaws.{more_given_up_or_blamed, no_program, p
 use Rattle.plm80_runs.specs.declared.board_files.BoardFiles.{BoardFiles}
 use Rattle.plm80_runs.specs.declared.on_board.Ran.{Ran}
 use Rattle.plm80_runs.specs.declared.runnable.{Runnable.Runnable, Runnable.TheVariants.Accepted, Runnable.TheVariants.Followed}
-use Rattle.plm80_runs.specs.OnBoards.{AnswersAmongDevices, AnswersBoard, AnswersRunOnBoard, BeginsTrace, HaveNoBoardProgram, IfGiven, IsBoardProgramRead}
+use Rattle.plm80_runs.specs.OnBoards.{AnswersAmongDevices, AnswersRunOnBoard, BeginsTrace, HaveNoBoardProgram, IfGiven, IsBoardProgramRead}
 use Rattle.plm80_runs.specs.OnBoards.{IsRunnable, TracesLines, board_program_paths, board_trace_ending, first_line, image_of}
 use Rattle.plm80_runs.specs.OnBoards.AnswersRunnable.{refused, runs}
 
@@ -241,11 +241,12 @@ no_board_program {asked = asked} _ _ _ (one path file board is spelled) Answers 
     no_program Answers (image ∷ read) lacks others answer refl
     (subst (λ (fs : List FileValue). AnswersProgram Answers asked fs answer) (sym (ap (drop 1) same)) answers)
 
-pub gives_up_with_board : (Answers : List Line → Located → List Public → AnswerValue → Type 0) (paths : BoardFiles) {old new : Journal}
+pub gives_up_with_board : (Part : List Line → List Public → Runnable → AnswerValue → Type 0) (paths : BoardFiles) {old new : Journal}
     → OnlyBlames (HaveNoBoardProgram paths.program.names) (board_program_paths paths) old new
-    → GivesUp (AnswersBoard Answers paths) (board_program_paths paths) old new
-gives_up_with_board Answers paths blames =
-    gives_up_unanswered (AnswersBoard Answers paths)
-    (λ files lacks others answer named is. no_board_program paths.board is.board_files is.board is.is_board (IfGiven Answers is.board) files others is.others answer
+    → GivesUp (AnswersRunOnBoard Part paths) (board_program_paths paths) old new
+gives_up_with_board Part paths blames =
+    gives_up_unanswered (AnswersRunOnBoard Part paths)
+    (λ files lacks others answer named is.
+    no_board_program paths.board is.board_files is.board is.is_board (IfGiven (AnswersAmongDevices Part) is.board) files others is.others answer
     is.files_are lacks is.answers)
     blames

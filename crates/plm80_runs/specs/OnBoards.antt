@@ -52,11 +52,6 @@ abbrev pub IfGiven : (Answers : List Line → Located → List Public → Answer
 IfGiven Answers None image publics answer = ⊥
 IfGiven Answers (Some lines) image publics answer = Answers lines image publics answer
 
--- an answer to a board, an image and its regions, as three files have them
-abbrev pub AnswersBoard : (Answers : List Line → Located → List Public → AnswerValue → Type 0) → BoardFiles → List FileValue →
-    AnswerValue → Type 0
-AnswersBoard Answers files = WithBoard (Some files.board) (λ board. AnswersProgram (IfGiven Answers board) (asks_names files.program))
-
 -- ---- programs that run
 
 -- a table that follows a program from SP at the stack's top, on every board, keeps its promise
@@ -128,7 +123,8 @@ pub record AnswersAmongDevices (Answers : List Line → List Public → Runnable
 
 -- an answer to a board, the names of a program and the program, as three files have them; or the image's refusal
 abbrev pub AnswersRunOnBoard : (Answers : List Line → List Public → Runnable → AnswerValue → Type 0) → BoardFiles → List FileValue → AnswerValue → Type 0
-AnswersRunOnBoard Answers = AnswersBoard (AnswersAmongDevices Answers)
+AnswersRunOnBoard Answers files =
+    WithBoard (Some files.board) (λ board. AnswersProgram (IfGiven (AnswersAmongDevices Answers) board) (asks_names files.program))
 
 -- what is known of an image that was judged
 abbrev pub IsJudged : Located → List Public → Judged → Type 0

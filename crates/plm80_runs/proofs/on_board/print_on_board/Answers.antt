@@ -2,7 +2,7 @@ use Rattle.plm80_runs.proofs.BoardLemmas.{device_blamed, gives_up_with_board, is
 use Rattle.plm80_runs.proofs.Names.{Located, subst, sym}
 use Rattle.machine80_board.specs.BoardRun.{DevicesAreData, IsMisplaced}
 use Rattle.plm80_console.specs.AnswerLaws.{err_from}
-use Rattle.plm80_runs.specs.OnBoards.{AnswersAmongDevices, IsJudged}
+use Rattle.plm80_runs.specs.OnBoards.{IsJudged}
 use Rattle.plm80_runs.proofs.on_board.print_on_board.Goals as goal
 
 pub returns-in-Some-clause-fault : goal.returns-in-Some-clause-fault
@@ -49,4 +49,4 @@ returns-in-Err-clause-fault g c =
 pub returns-in_err-board-clause-fault : goal.returns-in_err-board-clause-fault
 returns-in_err-board-clause-fault g c =
     err_from c.from_residual.result
-    (gives_up_with_board (AnswersAmongDevices (g.B.BoardCommand.begins c.args.command)) c.args.files c.in_err-board.ensures.fault)
+    (gives_up_with_board (g.B.BoardCommand.begins c.args.command) c.args.files c.in_err-board.ensures.fault)
