@@ -1,29 +1,22 @@
 -- The lines of a run on a board, one after another.
 use Rattle.std.proofs.Common.{◌≡◌, ℕ, ◌+◌, ◌<◌, ◌≤◌, Bool, true, false, List, [], ◌∷◌, ◌++◌, length, refl, ap, sym, subst, ◌∙◌, arith, append-nil, take-append-drop, append_assoc, length-append}
-use Rattle.std.specs.Prelude.{is_some, min, take, drop, Option, Some, None, Result, Ok, Err}
-use Rattle.std.specs.Result.{IsErrAnd}
+use Rattle.std.specs.Prelude.{is_some, min, take, drop, Option, Some, None}
 use Rattle.std.specs.Io.KnownBytes.{Appends}
 use Rattle.std.proofs.KnownBytes.{Appends-nil, Appends-trans}
 use Rattle.omf_model.specs.declared.symbols.Public.{Public}
-use Rattle.image80.specs.Image.{Located}
 use Rattle.image80.specs.Regions.{Areas}
 use Rattle.machine80.specs.Step.{Machine}
 use Rattle.board80.specs.declared.line.Line.{Line}
 use Rattle.machine80_board.specs.declared.end.BoardEnd.{BoardEnd}
 use Rattle.machine80_board.specs.declared.rules.Running.{Running}
-use Rattle.machine80_board.specs.BoardRun.{BoardState, IsBoardRun, IsReached, board_start}
+use Rattle.machine80_board.specs.BoardRun.{BoardState, IsBoardRun, IsReached}
 use Rattle.machine80_board.specs.Keeping.{HasCome, IsNow}
 use Rattle.loader80_trace.specs.declared.limits.Limits.{Limits}
 use Rattle.loader80_trace.specs.declared.limits.Span.{Span}
-use Rattle.loader80_trace.specs.declared.fault.TraceFault.{TraceFault}
-use Rattle.loader80_trace.specs.declared.fault.TraceFault.TheVariants.{Write as WriteFailed, Memory as OutOfMemory}
 use Rattle.loader80_trace.specs.Lines.{front_text}
 use Rattle.loader80_board.specs.declared.ended.BoardEnded.{BoardEnded}
-use Rattle.loader80_board.specs.declared.fault.BoardRunFault.{BoardRunFault}
-use Rattle.loader80_board.specs.declared.fault.BoardRunFault.TheVariants.{DeviceOutsideData, Write, Memory}
-use Rattle.loader80_board.specs.BoardLines.{AreLinesOf, TracesBoard, WritesFront, WritesLines, state_line, states_lines, step_line}
+use Rattle.loader80_board.specs.BoardLines.{AreLinesOf, WritesFront, WritesLines, state_line, states_lines, step_line}
 use Rattle.loader80_board.specs.BoardStates.{AreStates, last_number}
-use Rattle.loader80_board.specs.Faults.{fault_of}
 use Rattle.loader80_board.specs.Keeping.{ComesTo}
 use Rattle.loader80_board.proofs.DecideLemmas.{none_after}
 use Rattle.loader80_board.proofs.StatesLemmas.{Steps, come_at, ended, lines_more, states_more, stopped, went}
@@ -269,12 +262,3 @@ pub stopped_early : (lines : List Line) (regions : Areas) (start : BoardState) (
     ComesTo lines regions limits.outputs start before r ended → WritesLines lines regions start limits span publics numbered (Some (record { end = None; steps = limits.steps; at = r.cpu.pc })) old old
 stopped_early lines regions start limits span publics numbered r before ended old first less none comes =
     stopped_before lines regions start limits span publics numbered r before old first less (come_before lines regions limits.outputs start r before ended none comes)
-
--- a fault of the lines is one of the run
-pub front_fault : (lines : List Line) (image : Located) (limits : Limits) (span : Span) (publics : List Public) (numbered : Bool) (answer : Result (Option BoardEnded) BoardRunFault) (given : TraceFault) (old new : Option (List ℕ)) → IsErrAnd answer (λ fault. fault ≡ fault_of given) →
-    WritesFront lines image.regions (board_start image) limits span publics numbered old new → TracesBoard lines image limits span publics numbered answer old new
-front_fault lines image limits span publics numbered (Ok ended) given old new is front = absurd (is)
-front_fault lines image limits span publics numbered (Err Write) given old new is front = front
-front_fault lines image limits span publics numbered (Err Memory) given old new is front = front
-front_fault lines image limits span publics numbered (Err (DeviceOutsideData number)) WriteFailed old new is front = absurd (let bad : DeviceOutsideData number ≡ Write = is in cc)
-front_fault lines image limits span publics numbered (Err (DeviceOutsideData number)) OutOfMemory old new is front = absurd (let bad : DeviceOutsideData number ≡ Memory = is in cc)

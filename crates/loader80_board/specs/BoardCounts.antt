@@ -1,13 +1,11 @@
 -- How often a run on a board begins an instruction at each address. (This project's own.)
-use Rattle.std.specs.Prelude.{◌≡◌, ℕ, ◌<◌, ◌==◌, Bool, List, Result, Ok, Err, length, filter, slice_index}
+use Rattle.std.specs.Prelude.{◌≡◌, ℕ, ◌<◌, ◌==◌, Bool, List, length, filter, slice_index}
 use Rattle.image80.specs.Image.{Located}
 use Rattle.image80.specs.Regions.{Areas}
 use Rattle.board80.specs.declared.line.Line.{Line}
-use Rattle.machine80_board.specs.BoardRun.{BoardState, DevicesAreData, IsMisplaced, board_start}
+use Rattle.machine80_board.specs.BoardRun.{BoardState, board_start}
 use Rattle.loader80_trace.specs.declared.limits.Limits.{Limits}
 use Rattle.loader80_board.specs.declared.counting.BoardCounts.{BoardCounts}
-use Rattle.loader80_board.specs.declared.fault.BoardRunFault.{BoardRunFault}
-use Rattle.loader80_board.specs.declared.fault.BoardRunFault.TheVariants.{DeviceOutsideData, Write, Memory}
 use Rattle.loader80_board.specs.BoardStates.{AreStates, EndsSo}
 
 -- whether the next step from a state begins at an address
@@ -22,15 +20,7 @@ pub record CountsSteps (lines : List Line) (regions : Areas) (most : ℕ) (start
   pub whole : length counts ≡ 65536
   pub each : (address : ℕ) → address < 65536 → slice_index counts address ≡ length (filter (begins_at address) states)
 
--- these are the counts of a run among devices in data, and how it ended
+-- these are the counts of a run, and how it ended
 pub record IsCounted (lines : List Line) (image : Located) (limits : Limits) (counts : BoardCounts) : Type 0 where
-  pub devices : DevicesAreData lines image.regions
   pub ended : EndsSo lines image.regions (board_start image) limits counts.ended
   pub counted : CountsSteps lines image.regions limits.outputs (board_start image) counts.ended.steps counts.steps.items
-
--- what is answered of the counts of a run
-abbrev pub CountsBoard : List Line → Located → Limits → Result BoardCounts BoardRunFault → Type 0
-CountsBoard lines image limits (Ok counts) = IsCounted lines image limits counts
-CountsBoard lines image limits (Err (DeviceOutsideData number)) = IsMisplaced lines image.regions number
-CountsBoard lines image limits (Err Memory) = Unit {0}
-CountsBoard lines image limits (Err Write) = ⊥

@@ -1,25 +1,22 @@
 -- The lines of a run's instructions on a board, one for each state, in the form of those of a run without a board. (The columns are
 -- this project's own.)
-use Rattle.std.specs.Prelude.{◌≡◌, ℕ, ◌+◌, ◌<◌, ◌≤◌, Bool, List, [], ◌∷◌, ◌++◌, Option, None, Some, Result, Ok, Err, length}
+use Rattle.std.specs.Prelude.{◌≡◌, ℕ, ◌+◌, ◌<◌, ◌≤◌, Bool, List, [], ◌∷◌, ◌++◌, Option, None, Some, length}
 use Rattle.std.specs.Io.KnownBytes.{Appends}
 use Rattle.decode80.specs.declared.fetching.Fetched.{Fetched}
 use Rattle.decode80.specs.declared.instr.Instr.{Instr}
 use Rattle.decode80.specs.declared.instr.Instr.TheVariants.{In, Out}
 use Rattle.omf_model.specs.declared.symbols.Public.{Public}
-use Rattle.image80.specs.Image.{Located}
 use Rattle.image80.specs.Regions.{Areas}
 use Rattle.machine80.specs.Step.{fetch}
 use Rattle.board80.specs.declared.line.Line.{Line}
 use Rattle.board80.specs.declared.place.Place.TheVariants.{Port}
-use Rattle.machine80_board.specs.BoardRun.{BoardState, IsMisplaced, IsReached, board_start}
+use Rattle.machine80_board.specs.BoardRun.{BoardState, IsReached}
 use Rattle.machine80_board.specs.Exchanges.{answer_at}
 use Rattle.loader80_trace.specs.declared.limits.Limits.{Limits}
 use Rattle.loader80_trace.specs.declared.limits.Span.{Span}
 use Rattle.loader80_trace.specs.Lines.{front_text, instruction_line}
 use Rattle.loader80_trace.specs.Traces.{AppendsFront, count_within}
 use Rattle.loader80_board.specs.declared.ended.BoardEnded.{BoardEnded}
-use Rattle.loader80_board.specs.declared.fault.BoardRunFault.{BoardRunFault}
-use Rattle.loader80_board.specs.declared.fault.BoardRunFault.TheVariants.{DeviceOutsideData, Write, Memory}
 use Rattle.loader80_board.specs.BoardStates.{AreStates, EndsSo, last_number}
 
 -- the byte that an instruction takes from a port, if the board answers one there, or gives to one
@@ -91,12 +88,3 @@ pub record WritesFront (lines : List Line) (regions : Areas) (start : BoardState
   pub text : List ℕ
   pub are_lines : AreFirstLinesOf lines regions start limits span publics numbered text
   pub written : AppendsFront old new text
-
--- what is answered of the lines of a span, and what is written
-abbrev pub TracesBoard : List Line → Located → Limits → Span → List Public → (numbered : Bool) → Result (Option BoardEnded) BoardRunFault → (old new : Option (List ℕ)) → Type 0
-TracesBoard lines image limits span publics numbered (Ok ended) old new =
-    WritesLines lines image.regions (board_start image) limits span publics numbered ended old new
-TracesBoard lines image limits span publics numbered (Err (DeviceOutsideData number)) old new =
-    IsMisplaced lines image.regions number × Appends old new []
-TracesBoard lines image limits span publics numbered (Err Write) old new = WritesFront lines image.regions (board_start image) limits span publics numbered old new
-TracesBoard lines image limits span publics numbered (Err Memory) old new = WritesFront lines image.regions (board_start image) limits span publics numbered old new

@@ -1,18 +1,17 @@
 //! How often a run on a board begins the instruction at each address.
 
 ghost use Rattle.std.specs.Prelude.{◌≡◌, IfOk, replicate};
-ghost use Rattle.machine80_board.specs.BoardRun.{BoardState};
+ghost use Rattle.machine80_board.specs.BoardRun.{BoardState, DevicesAreData};
 ghost use Rattle.machine80_board.specs.Keeping.{AreRight, AreWhole, IsNow};
 ghost use Rattle.loader80_trace.specs.declared.limits.Limits.{Limits};
-ghost use Rattle.loader80_board.specs.BoardCounts.{CountsBoard, CountsSteps};
+ghost use Rattle.loader80_board.specs.BoardCounts.{CountsSteps, IsCounted};
 ghost use Rattle.loader80_board.specs.BoardStates.{EndsSo};
 
 use crate::ended::BoardEnded;
-use crate::fault::BoardRunFault;
 use board80::Board;
 use image80::Image;
 use loader80_trace::{Limits, count_at};
-use machine80_board::{IndexedLines, Rules, Running, misplaced_device, start, step_on_board};
+use machine80_board::{IndexedLines, Rules, Running, start, step_on_board};
 use std::alloc::{AllocError, Global};
 
 /// How a run on a board ended, and how often it began the instruction at each address.
@@ -24,23 +23,21 @@ pub struct BoardCounts {
     pub steps: Vec<u64>,
 }
 
-/// Runs any image from its start on a board and within these limits, and counts the steps that begin at each address.
+/// Runs any image from its start on a board and within these limits, and counts the steps that begin at each address. The
+/// board's devices must lie in the image's data.
 ///
 /// # Errors
-/// `DeviceOutsideData` with the number of the board's line if a device doesn't lie in the image's data; `Memory` if memory
-/// runs out, also for an output below the limit.
+/// `AllocError` only if memory runs out, also for an output below the limit.
 pub fn count_board_steps(
     alloc: Global,
     image: &Image,
     board: &Board,
     limits: Limits,
-) -> Result<BoardCounts, BoardRunFault>
-    ensures { CountsBoard board.now image.now limits result }
+) -> Result<BoardCounts, AllocError>
+    requires { DevicesAreData board.now image.now.regions }
+    ensures { IfOk result (IsCounted board.now image.now limits) }
 {
     image.regions.stack();
-    if let Some(number) = misplaced_device(board, &image.regions) {
-        return Err(BoardRunFault::DeviceOutsideData(number));
-    }
     let lines = IndexedLines::of(alloc, board)?;
     let rules = Rules {
         lines: &lines,

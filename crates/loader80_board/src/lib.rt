@@ -5,18 +5,16 @@
 //!
 //! | Item | What it is |
 //! |---|---|
-//! | [`transcribe_on_board`], [`BoardReply`], [`BoardOutcome`] | an image runs on a board; the transcript |
+//! | [`transcribe_on_board`], [`BoardTranscript`] | an image runs on a board; the transcript |
 //! | [`write_board_lines`] | the lines of some of a run's instructions, written as they come |
 //! | [`count_board_steps`], [`BoardCounts`] | how often a run begins the instruction at each address |
 //! | [`BoardEnded`] | how a run ended, or was stopped |
-//! | [`BoardRunFault`] | why a run on a board has no outcome, no lines or no counts |
 //! | [`board_transcript_text`], [`board_ending_text`] | what is printed of a run on a board; its last line |
 //! | [`laws`] | a run among devices is one on a board; nothing else decides it: as contracts |
 #![tactic(auto)]
 
 mod counting;
 mod ended;
-mod fault;
 pub mod laws;
 mod line;
 mod running;
@@ -26,7 +24,6 @@ mod transcript;
 
 pub use counting::{BoardCounts, count_board_steps};
 pub use ended::BoardEnded;
-pub use fault::BoardRunFault;
-pub use running::{BoardOutcome, BoardReply, transcribe_on_board};
+pub use running::{BoardTranscript, transcribe_on_board};
 pub use tracing::write_board_lines;
 pub use transcript::{board_ending_text, board_transcript_text};

@@ -1,21 +1,19 @@
 //! The lines of a run's instructions on a board.
 
 ghost use Rattle.std.specs.Prelude.{◌≡◌, ◌+◌, ◌<◌, ◌≤◌, IfOk, OnErr};
-ghost use Rattle.machine80_board.specs.BoardRun.{BoardState};
+ghost use Rattle.machine80_board.specs.BoardRun.{BoardState, DevicesAreData, board_start};
 ghost use Rattle.machine80_board.specs.Keeping.{AreRight, AreWhole, HasCome, IsNow};
 ghost use Rattle.loader80_trace.specs.declared.limits.Limits.{Limits};
 ghost use Rattle.loader80_trace.specs.Traces.{trace_failures};
-ghost use Rattle.loader80_board.specs.BoardLines.{TracesBoard, WritesFront, WritesLines};
-ghost use Rattle.loader80_board.specs.BoardSays.{write_failures_of};
+ghost use Rattle.loader80_board.specs.BoardLines.{WritesFront, WritesLines};
 
 use crate::ended::BoardEnded;
-use crate::fault::BoardRunFault;
 use crate::line::show_step;
 use crate::skipping::skip_steps;
 use board80::Board;
 use image80::Image;
 use loader80_trace::{Limits, LineForm, Span, TraceFault, append_front};
-use machine80_board::{IndexedLines, Rules, Running, misplaced_device, start};
+use machine80_board::{IndexedLines, Rules, Running, start};
 use std::alloc::Global;
 use stream80::{Sink, write_all};
 
@@ -25,12 +23,11 @@ use stream80::{Sink, write_all};
 ///
 /// Returns how the run ended if its last line is among these or before them, and `None` if the span ended first.
 ///
-/// The count of failures of the writer must be below the greatest `u64`.
+/// The board's devices must lie in the image's data, and the count of failures of the writer be below the greatest `u64`.
 ///
 /// # Errors
-/// `DeviceOutsideData` with the number of the board's line if a device doesn't lie in the image's data; nothing was then
-/// written. `Write` if a write fails or takes no byte, and `Memory` if memory runs out, also for an output below the limit;
-/// a prefix of the lines has then been written.
+/// `Write` if a write fails or takes no byte, and `Memory` if memory runs out, also for an output below the limit; a prefix
+/// of the lines has then been written.
 pub fn write_board_lines<K: Sink>(
     alloc: Global,
     image: &Image,
@@ -39,15 +36,16 @@ pub fn write_board_lines<K: Sink>(
     span: Span,
     form: LineForm<'_>,
     out: &mut K,
-) -> Result<Option<BoardEnded>, BoardRunFault>
-    requires { K.failed out.old < u64.MAX }
-    ensures traces { TracesBoard board.now image.now limits span form.entry.publics.now form.entry.numbered result (K.written out.old) (K.written out.new) }
-    ensures failures { K.failed out.new ≡ K.failed out.old + write_failures_of result }
+) -> Result<Option<BoardEnded>, TraceFault>
+    requires countable { K.failed out.old < u64.MAX }
+    requires devices { DevicesAreData board.now image.now.regions }
+    ensures lines { IfOk result (λ ended. WritesLines board.now image.now.regions (board_start image.now) limits span
+        form.entry.publics.now form.entry.numbered ended (K.written out.old) (K.written out.new)) }
+    ensures front { OnErr result (WritesFront board.now image.now.regions (board_start image.now) limits span
+        form.entry.publics.now form.entry.numbered (K.written out.old) (K.written out.new)) }
+    ensures failures { K.failed out.new ≡ K.failed out.old + trace_failures result }
 {
     image.regions.stack();
-    if let Some(number) = misplaced_device(board, &image.regions) {
-        return Err(BoardRunFault::DeviceOutsideData(number));
-    }
     let lines = IndexedLines::of(alloc, board)?;
     let rules = Rules {
         lines: &lines,
@@ -60,7 +58,7 @@ pub fn write_board_lines<K: Sink>(
         steps: limits.steps,
         form,
     };
-    Ok(write_span(alloc, &rules, asked, &mut running, out)?)
+    write_span(alloc, &rules, asked, &mut running, out)
 }
 
 /// Which lines are written, and how.

@@ -5,6 +5,7 @@ ghost use Rattle.std.specs.List.{flat_map};
 ghost use Rattle.loader80.specs.TranscriptText.{stack_line};
 ghost use Rattle.loader80_board.specs.BoardTranscript.{board_end_line, board_transcript, output_line};
 
+use crate::ended::BoardEnded;
 use board80::Place;
 use loader80::digits::{ByteDigits, WordDigits};
 use loader80::{ending_text, front_text};
@@ -21,14 +22,12 @@ pub fn board_transcript_text(
     alloc: Global,
     stack_bytes: u64,
     outputs: &[Output],
-    end: Option<BoardEnd>,
-    at: u16,
-    steps: u64,
+    ended: BoardEnded,
 ) -> Result<String, AllocError>
-    ensures { IfOk result (λ text. string_bytes text ≡ board_transcript stack_bytes outputs.now «end» at steps) }
+    ensures { IfOk result (λ text. string_bytes text ≡ board_transcript stack_bytes outputs.now ended.end ended.at ended.steps) }
 {
     let mut text = board_front_text(alloc, stack_bytes, outputs)?;
-    append_end(alloc, &mut text, end, at, steps)?;
+    append_end(alloc, &mut text, ended)?;
     Ok(text)
 }
 
@@ -56,16 +55,11 @@ fn board_front_text(
 ///
 /// # Errors
 /// `AllocError` only if memory runs out.
-pub fn board_ending_text(
-    alloc: Global,
-    end: Option<BoardEnd>,
-    at: u16,
-    steps: u64,
-) -> Result<String, AllocError>
-    ensures { IfOk result (λ text. string_bytes text ≡ board_end_line «end» at steps) }
+pub fn board_ending_text(alloc: Global, ended: BoardEnded) -> Result<String, AllocError>
+    ensures { IfOk result (λ text. string_bytes text ≡ board_end_line ended.end ended.at ended.steps) }
 {
     let mut text = String::new(alloc);
-    append_end(alloc, &mut text, end, at, steps)?;
+    append_end(alloc, &mut text, ended)?;
     Ok(text)
 }
 
@@ -81,15 +75,10 @@ fn append_output(text: &mut String, output: Output) -> Result<(), AllocError>
 }
 
 /// Appends the last line of a transcript.
-fn append_end(
-    alloc: Global,
-    text: &mut String,
-    end: Option<BoardEnd>,
-    at: u16,
-    steps: u64,
-) -> Result<(), AllocError>
-    ensures { OnOk result (string_bytes text.new ≡ string_bytes text.old ++ board_end_line «end» at steps) }
+fn append_end(alloc: Global, text: &mut String, ended: BoardEnded) -> Result<(), AllocError>
+    ensures { OnOk result (string_bytes text.new ≡ string_bytes text.old ++ board_end_line ended.end ended.at ended.steps) }
 {
+    let BoardEnded { end, steps, at } = ended;
     match end {
         None => text.push_str(&ending_text(alloc, None, at, steps)?),
         Some(BoardEnd::OfMachine(end)) => text.push_str(&ending_text(alloc, Some(end), at, steps)?),

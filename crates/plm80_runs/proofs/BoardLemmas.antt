@@ -2,104 +2,132 @@
 use Rattle.plm80_runs.proofs.Names.{◌≡◌, ◌∙◌, ap, arith, ℕ, true, List, [], ◌∷◌, Option, None, Some, Result, Ok, Err, IfOk, IfErr, IsOkAnd, refl, Public, Located}
 use Rattle.plm80_runs.proofs.Names.{AnswerValue, Appends, Appends-trans, AppendsFront, GaveUp, Gives, GivesUp, IsAnswered, IsGiven}
 use Rattle.plm80_runs.proofs.Names.{IsGivenUp, prints, Journal, and_reported, file_value, FileValue, IfErr-weaker, Bor, ◌++◌, drop, subst, sym}
-use Rattle.plm80_runs.proofs.Names.{IsRefusal, LeavesFront, Limits, Span}
+use Rattle.plm80_runs.proofs.Names.{Areas, IsRefusal, LeavesFront, Limits, Span}
 use Rattle.std.proofs.Common.{inr}
 use Rattle.board80.specs.declared.line.Line.{Line}
-use Rattle.loader80_board.specs.BoardLines.{TracesBoard, WritesFront}
+use Rattle.image80.specs.RegionsText.{Spells as SpellsRegions}
+use Rattle.loader80_board.specs.BoardLines.{WritesFront, WritesLines}
 use Rattle.loader80_board.specs.declared.ended.BoardEnded.{BoardEnded}
-use Rattle.loader80_board.specs.declared.fault.BoardRunFault.{BoardRunFault}
-use Rattle.loader80_board.specs.declared.fault.BoardRunFault.TheVariants.{DeviceOutsideData, Write, Memory}
-use Rattle.machine80_board.specs.BoardRun.{DevicesAreData, board_start}
-use Rattle.board80.specs.Board.{Spells}
+use Rattle.loader80_trace.specs.declared.fault.TraceFault.{TraceFault}
+use Rattle.machine80_board.specs.BoardRun.{DevicesAreData, IsMisplaced, board_start}
+use Rattle.board80.specs.Board.{Spells, gives_device, in_device}
 use Rattle.plm80_boards.specs.BoardLaws.{gives_on_board}
 use Rattle.plm80_boards.specs.Boards.{HaveNoBoard, IsBoardOf, IsBoardRead, board_paths}
-use Rattle.std.specs.Prelude.{Bool, OnErr, slice_index_or}
+use Rattle.std.specs.Prelude.{Bool, OnErr, false, slice_index_or, ◌||◌}
 use Rattle.plm80_boards.specs.Boards.IsBoardOf.{one}
 use Rattle.plm80_console.specs.Answer.IsGivenUp.{before as unmade, within as unfinished}
-use Rattle.plm80_console.specs.Journal.{Blames, OnlyBlames, and_read}
+use Rattle.plm80_console.specs.Journal.{Blames, OnlyBlames, and_blamed, and_read}
 use Rattle.plm80_console.specs.Journal.OnlyBlames.{other, wrong}
 use Rattle.plm80_console.specs.AnswerLaws.{answered_of, blamed_after, given_or_given_up, gives_up_unanswered, more_paths}
 use Rattle.plm80_names.specs.{Arguments.asks_names, Arguments.program_paths, Verdict.AnswersProgram, Verdict.HaveNoProgram}
-use Rattle.plm80_names.specs.FrontLaws.{all_front, front_of_first, front_of_second}
-use Rattle.plm80_names.specs.VerdictLaws.{no_program, program_answered, program_given_up}
+use Rattle.plm80_names.specs.Blaming.GivesUpOrBlames.{wrong as blamed}
+use Rattle.plm80_names.specs.FrontLaws.{front_of_first, front_of_second}
+use Rattle.plm80_names.specs.VerdictLaws.{more_given_up_or_blamed, no_program, program_answered, program_files, program_given_up, same_regions}
 use Rattle.plm80_runs.specs.declared.board_files.BoardFiles.{BoardFiles}
 use Rattle.plm80_runs.specs.declared.on_board.Ran.{Ran}
-use Rattle.plm80_runs.specs.declared.runnable.Runnable.{Runnable}
-use Rattle.plm80_runs.specs.OnBoards.{AnswersBoard, AnswersRunOnBoard, AnswersRunnable, BeginsTrace, HaveNoBoardProgram, IfGiven, IsBoardProgramRead}
+use Rattle.plm80_runs.specs.declared.runnable.{Runnable.Runnable, Runnable.TheVariants.Accepted, Runnable.TheVariants.Followed}
+use Rattle.plm80_runs.specs.OnBoards.{AnswersAmongDevices, AnswersRunOnBoard, BeginsTrace, HaveNoBoardProgram, IfGiven, IsBoardProgramRead}
 use Rattle.plm80_runs.specs.OnBoards.{IsRunnable, TracesLines, board_program_paths, board_trace_ending, first_line, image_of}
 use Rattle.plm80_runs.specs.OnBoards.AnswersRunnable.{refused, runs}
 
-module _ (Done Part : Runnable → AnswerValue → Type 0) (image : Located) (publics : List Public) (old new : Journal) where
-  -- of a program that runs, what is answered of its run
-  runnable_answered : {E : Type 0} (program : Runnable) → IsRunnable image publics program → (r : Result ℕ E)
-      → IfOk r (IsAnswered (Done program) old new) → IfErr r (λ _. IsGivenUp (Part program) old new)
-      → IfOk r (IsAnswered (AnswersRunnable Done image publics) old new) × IfErr r (λ _. IsGivenUp (AnswersRunnable Part image publics) old new)
-  runnable_answered {E = E} program is (Ok status) gave up = (
-    (answered_of {E = E} (Done program) (AnswersRunnable Done image publics) (λ answer done. runs program is done) old new (Ok status) (gave, tt)).0,
-    tt,
-  )
-  runnable_answered {E = E} program is (Err e) gave up = (
-    tt,
-    (answered_of {E = E} (Part program) (AnswersRunnable Part image publics) (λ answer done. runs program is done) old new (Err e) (tt, up)).1,
-  )
+-- a program that runs is the image's
+pub is_of_image : {image : Located} {publics : List Public} (program : Runnable) → IsRunnable image publics program → image_of program ≡ image
+is_of_image (Accepted program) is = is.ground.image_is
+is_of_image (Followed image table) is = is.ground.image_is
 
-  -- of another one, its refusal
-  refused_answered : {E : Type 0} (line : List ℕ) (answer : AnswerValue) (r : Result ℕ E) → IsRefusal image publics line → answer ≡ prints line 1
-      → IfOk r (IsGiven answer old new) → IfErr r (λ _. GaveUp answer old new)
-      → IfOk r (IsAnswered (AnswersRunnable Done image publics) old new) × IfErr r (λ _. IsGivenUp (AnswersRunnable Part image publics) old new)
-  refused_answered line answer r is answer_is gave up = (
-    (given_or_given_up (AnswersRunnable Done image publics) answer old new r (refused line is answer_is) gave up).0,
-    (given_or_given_up (AnswersRunnable Part image publics) answer old new r (refused line is answer_is) gave up).1,
-  )
+-- ---- a device outside data
+
+or_true : (b : Bool) → (b || true) ≡ true
+or_true true = refl
+or_true false = refl
+
+device_among : (before : List Line) (line : Line) (after : List Line) (address : ℕ) → gives_device line address ≡ true
+    → in_device (before ++ line ∷ after) address ≡ true
+device_among [] line after address is = ap (λ (b : Bool). b || in_device after address) is
+device_among (other ∷ before) line after address is =
+    ap (λ (b : Bool). gives_device other address || b) (device_among before line after address is) ∙ or_true (gives_device other address)
+
+-- such a board has no answer
+misplaced_or_data : (lines : List Line) (regions : Areas) (number : ℕ) → IsMisplaced lines regions number → DevicesAreData lines regions → ⊥
+misplaced_or_data lines regions number is devices =
+    let there = ap (λ (ls : List Line). in_device ls is.address) is.cut ∙ device_among is.before is.line is.after is.address is.device in
+    let never : true ≡ false = sym (devices is.address there) ∙ is.outside in
+    absurd cc
+
+-- ---- answers
+
+-- what is answered so, or given up so, is one of others
+more_answered : {E : Type 0} (Done Part More Rest : AnswerValue → Type 0) → ((answer : AnswerValue) → Done answer → More answer)
+    → ((answer : AnswerValue) → Part answer → Rest answer) → (old new : Journal) (r : Result ℕ E) → IfOk r (IsAnswered Done old new)
+    → IfErr r (λ _. IsGivenUp Part old new) → IfOk r (IsAnswered More old new) × IfErr r (λ _. IsGivenUp Rest old new)
+more_answered {E = E} Done Part More Rest more rest old new (Ok status) gave up =
+    ((answered_of {E = E} Done More more old new (Ok status) (gave, tt)).0, tt)
+more_answered {E = E} Done Part More Rest more rest old new (Err e) gave up =
+    (tt, (answered_of {E = E} Part Rest rest old new (Err e) (tt, up)).1)
 
 module _ {paths : BoardFiles} {old between : Journal} {board : List Line} {image : Located} {publics : List Public}
-    (read : IsBoardProgramRead paths old between board image publics) (new : Journal) where
-  module _ (Done Part : List Line → Located → List Public → AnswerValue → Type 0) where
-    -- what is answered of them, or given up
-    board_answers : {E : Type 0} (r : Result ℕ E) → IfOk r (IsAnswered (Done board image publics) between new)
-        → IfErr r (λ _. IsGivenUp (Part board image publics) between new)
-        → IfOk r (Gives (AnswersBoard Done paths) (board_program_paths paths) old new)
-        × IfErr r (λ _. GivesUp (AnswersBoard Part paths) (board_program_paths paths) old new)
-    board_answers {E = E} (Ok status) gave up = (
-      (gives_on_board (Some paths.board) (λ given. AnswersProgram (IfGiven Done given) (asks_names paths.program)) (program_paths paths.program)
-          old read.between new (Some board) read.is_board {E = E} (Ok status)
-          (program_answered read.program new (IfGiven Done (Some board)) {E = E} (Ok status) gave) tt).0,
-      tt,
-    )
-    board_answers {E = E} (Err e) gave up = (
-      tt,
-      (gives_on_board (Some paths.board) (λ given. AnswersProgram (IfGiven Part given) (asks_names paths.program)) (program_paths paths.program)
-          old read.between new (Some board) read.is_board {E = E} (Err e)
-          tt (program_given_up read.program new (IfGiven Part (Some board)) {E = E} (Err e) up)).1,
-    )
+    (read : IsBoardProgramRead paths old between board image publics) (new : Journal) (Done Part : List Line → List Public → Runnable → AnswerValue → Type 0) where
+  abbrev GivesRun : {E : Type 0} → Result ℕ E → Type 0
+  GivesRun r = IfOk r (Gives (AnswersRunOnBoard Done paths) (board_program_paths paths) old new)
+      × IfErr r (λ _. GivesUp (AnswersRunOnBoard Part paths) (board_program_paths paths) old new)
 
-  module _ (Done Part : List Line → List Public → Runnable → AnswerValue → Type 0) where
-    -- what is answered of a run on the board, or given up
-    run_answers : {E : Type 0} (r : Result ℕ E) → IfOk r (IsAnswered (AnswersRunnable (Done board publics) image publics) between new)
-        → IfErr r (λ _. IsGivenUp (AnswersRunnable (Part board publics) image publics) between new)
-        → IfOk r (Gives (AnswersRunOnBoard Done paths) (board_program_paths paths) old new)
-        × IfErr r (λ _. GivesUp (AnswersRunOnBoard Part paths) (board_program_paths paths) old new)
-    run_answers = board_answers (λ lines i names. AnswersRunnable (Done lines names) i names) (λ lines i names. AnswersRunnable (Part lines names) i names)
+  -- what is answered of a board and an image, or given up
+  board_answers : {E : Type 0} (r : Result ℕ E) → IfOk r (IsAnswered (AnswersAmongDevices Done board image publics) between new)
+      → IfErr r (λ _. IsGivenUp (AnswersAmongDevices Part board image publics) between new) → GivesRun r
+  board_answers {E = E} (Ok status) gave up = (
+    (gives_on_board (Some paths.board) (λ given. AnswersProgram (IfGiven (AnswersAmongDevices Done) given) (asks_names paths.program))
+        (program_paths paths.program) old read.between new (Some board) read.is_board {E = E} (Ok status)
+        (program_answered read.program new (IfGiven (AnswersAmongDevices Done) (Some board)) {E = E} (Ok status) gave) tt).0,
+    tt,
+  )
+  board_answers {E = E} (Err e) gave up = (
+    tt,
+    (gives_on_board (Some paths.board) (λ given. AnswersProgram (IfGiven (AnswersAmongDevices Part) given) (asks_names paths.program))
+        (program_paths paths.program) old read.between new (Some board) read.is_board {E = E} (Err e)
+        tt (program_given_up read.program new (IfGiven (AnswersAmongDevices Part) (Some board)) {E = E} (Err e) up)).1,
+  )
 
-    pub runnable_answers : {E : Type 0} (program : Runnable) → IsRunnable image publics program → (r : Result ℕ E)
-        → IfOk r (IsAnswered (Done board publics program) between new) → IfErr r (λ _. IsGivenUp (Part board publics program) between new)
-        → IfOk r (Gives (AnswersRunOnBoard Done paths) (board_program_paths paths) old new)
-        × IfErr r (λ _. GivesUp (AnswersRunOnBoard Part paths) (board_program_paths paths) old new)
-    runnable_answers program is r gave up =
-        let both = runnable_answered (Done board publics) (Part board publics) image publics between new program is r gave up in
-        run_answers r both.0 both.1
+  -- of a program that runs, what is answered of its run
+  pub runnable_answers : {E : Type 0} → DevicesAreData board image.regions → (program : Runnable) → IsRunnable image publics program
+      → (r : Result ℕ E) → IfOk r (IsAnswered (Done board publics program) between new)
+      → IfErr r (λ _. IsGivenUp (Part board publics program) between new) → GivesRun r
+  runnable_answers devices program is r gave up =
+      let both = more_answered (Done board publics program) (Part board publics program) (AnswersAmongDevices Done board image publics)
+      (AnswersAmongDevices Part board image publics) (λ answer done. record { devices = devices; answers = runs program is done })
+      (λ answer part. record { devices = devices; answers = runs program is part }) between new r gave up in
+      board_answers r both.0 both.1
 
-    pub refused_answers : {E : Type 0} (line : List ℕ) (answer : AnswerValue) (r : Result ℕ E) → IsRefusal image publics line → answer ≡ prints line 1
-        → IfOk r (IsGiven answer between new) → IfErr r (λ _. GaveUp answer between new)
-        → IfOk r (Gives (AnswersRunOnBoard Done paths) (board_program_paths paths) old new)
-        × IfErr r (λ _. GivesUp (AnswersRunOnBoard Part paths) (board_program_paths paths) old new)
-    refused_answers line answer r is answer_is gave up =
-        let both = refused_answered (Done board publics) (Part board publics) image publics between new line answer r is answer_is gave up in
-        run_answers r both.0 both.1
+  -- of another one, its refusal
+  pub refused_answers : {E : Type 0} → DevicesAreData board image.regions → (line : List ℕ) (answer : AnswerValue) (r : Result ℕ E)
+      → IsRefusal image publics line → answer ≡ prints line 1 → IfOk r (IsGiven answer between new) → IfErr r (λ _. GaveUp answer between new)
+      → GivesRun r
+  refused_answers devices line answer r is answer_is gave up =
+      board_answers r
+      (given_or_given_up (AnswersAmongDevices Done board image publics) answer between new r
+      (record { devices = devices; answers = refused line is answer_is }) gave up).0
+      (given_or_given_up (AnswersAmongDevices Part board image publics) answer between new r
+      (record { devices = devices; answers = refused line is answer_is }) gave up).1
 
-    -- nothing is answered if a fault is reported
-    pub no_answer : new ≡ and_reported between → GivesUp (AnswersRunOnBoard Part paths) (board_program_paths paths) old new
-    no_answer is = (run_answers {E = Unit {0}} (Err tt) tt (unmade is)).1
+  -- nothing is answered if a fault is reported
+  pub no_answer : new ≡ and_reported between → GivesUp (AnswersRunOnBoard Part paths) (board_program_paths paths) old new
+  no_answer is = (board_answers {E = Unit {0}} (Err tt) tt (unmade is)).1
+
+  -- nor can be if a device lies outside data, as all files have it
+  pub device_blamed : ((text : List ℕ) (areas others : Areas) → SpellsRegions text areas → SpellsRegions text others → areas ≡ others)
+      → (number : ℕ) → IsMisplaced board image.regions number → new ≡ and_blamed between
+      → GivesUp (AnswersRunOnBoard Part paths) (board_program_paths paths) old new
+  device_blamed one number misplaced is =
+      let Answers = IfGiven (AnswersAmongDevices Part) (Some board) in
+      let asked = asks_names paths.program in
+      let none : IsMisplaced board image.regions number → (answer : AnswerValue)
+      → AnswersProgram Answers asked (program_files read.program new) answer → ⊥ =
+      λ at answer answers.
+      misplaced_or_data board image.regions number at
+      (subst (λ (regions : Areas). DevicesAreData board regions) (same_regions read.program new Answers one answer answers) answers.answers.devices) in
+      (gives_on_board (Some paths.board) (λ given. AnswersProgram (IfGiven (AnswersAmongDevices Part) given) asked) (program_paths paths.program)
+      old read.between new (Some board) read.is_board {E = Unit {0}} (Err tt) tt
+      (more_given_up_or_blamed read.program new Answers (AnswersProgram Answers asked) (λ files answer answers. answers) read.between refl
+      {E = Unit {0}} (Err tt) none (blamed misplaced is))).1
 
 module _ (Answers : AnswerValue → Type 0) (old new : Journal) where
   -- the answer of a run that was printed
@@ -128,51 +156,38 @@ pub board_trace_first : (image : Located) (publics : List Public) (ended : Optio
 board_trace_first image publics None = refl
 board_trace_first image publics (Some ended) = refl
 
-module _ (limits : Limits) (span : Span) (lines : List Line) (publics : List Public) (program : Runnable)
-    (devices : DevicesAreData lines (image_of program).regions) where
-  -- the program's first line alone
-  first_alone : BeginsTrace limits span lines publics program (first_line program ++ [])
-  first_alone = record {
-    devices = devices;
-    text = [];
-    are_lines = record { states = []; are_states = tt; within = omega arith; spells = refl };
-    is = refl;
-  }
-
+module _ (limits : Limits) (span : Span) (lines : List Line) (publics : List Public) (program : Runnable) where
   -- what a fault leaves as the first line is written
   pub first_stopped : (old new : Option (List ℕ)) → AppendsFront old new (first_line program) → LeavesFront (BeginsTrace limits span lines publics program) old new
-  first_stopped old new part = inr (first_line program ++ [], first_alone, front_of_first old new (first_line program) [] part)
+  first_stopped old new part =
+      inr (
+        first_line program ++ [],
+        record { text = []; are_lines = record { states = []; are_states = tt; within = omega arith; spells = refl }; is = refl },
+        front_of_first old new (first_line program) [] part,
+      )
 
   -- and behind it: a front part of the lines of first states
-  lines_begun : (old between new : Option (List ℕ)) → Appends old between (first_line program) →
-      WritesFront lines (image_of program).regions (board_start (image_of program)) limits span publics true between new →
-      LeavesFront (BeginsTrace limits span lines publics program) old new
-  lines_begun old between new first is =
+  pub lines_stopped : (r : Result (Option BoardEnded) TraceFault) (old between new : Option (List ℕ)) → Appends old between (first_line program) →
+      OnErr r (WritesFront lines (image_of program).regions (board_start (image_of program)) limits span publics true between new) →
+      OnErr r (LeavesFront (BeginsTrace limits span lines publics program) old new)
+  lines_stopped (Ok ended) old between new first is = tt
+  lines_stopped (Err fault) old between new first is =
       inr (
         first_line program ++ is.text,
-        record { devices = devices; text = is.text; are_lines = is.are_lines; is = refl },
+        record { text = is.text; are_lines = is.are_lines; is = refl },
         front_of_second old between new (first_line program) is.text first is.written,
       )
 
-  pub lines_stopped : (r : Result (Option BoardEnded) BoardRunFault) (old between new : Option (List ℕ)) → Appends old between (first_line program) →
-      TracesBoard lines (image_of program) limits span publics true r between new →
-      OnErr r (LeavesFront (BeginsTrace limits span lines publics program) old new)
-  lines_stopped (Ok ended) old between new first is = tt
-  lines_stopped (Err (DeviceOutsideData number)) old between new first is =
-      inr (first_line program ++ [], first_alone, front_of_second old between new (first_line program) [] first (all_front between new [] is.1))
-  lines_stopped (Err Write) old between new first is = lines_begun old between new first is
-  lines_stopped (Err Memory) old between new first is = lines_begun old between new first is
-
   -- all of them
-  pub lines_behind : (r : Result (Option BoardEnded) BoardRunFault) (old between new : Option (List ℕ)) → Appends old between (first_line program) →
-      TracesBoard lines (image_of program) limits span publics true r between new →
+  pub lines_behind : (r : Result (Option BoardEnded) TraceFault) (old between new : Option (List ℕ)) → Appends old between (first_line program) →
+      IfOk r (λ ended. WritesLines lines (image_of program).regions (board_start (image_of program)) limits span publics true ended between new) →
       IfOk r (λ ended. (text : List ℕ) × Appends old new (first_line program ++ text) × TracesLines limits span lines publics (image_of program) text ended)
   lines_behind (Ok ended) old between new first is = (
     is.text,
     Appends-trans old between new (first_line program) is.text first is.written,
-    record { devices = devices; are_lines = is.are_lines; traced = is.traced },
+    record { are_lines = is.are_lines; traced = is.traced },
   )
-  lines_behind (Err e) old between new first is = tt
+  lines_behind (Err fault) old between new first is = tt
 
 -- the board of a file that was read, which no other is
 alone_in : (path : Bor (List ℕ)) (file : FileValue) (board : List Line) → ((other : List Line) → Spells file.bytes other → other ≡ board)
@@ -226,11 +241,12 @@ no_board_program {asked = asked} _ _ _ (one path file board is spelled) Answers 
     no_program Answers (image ∷ read) lacks others answer refl
     (subst (λ (fs : List FileValue). AnswersProgram Answers asked fs answer) (sym (ap (drop 1) same)) answers)
 
-pub gives_up_with_board : (Answers : List Line → Located → List Public → AnswerValue → Type 0) (paths : BoardFiles) {old new : Journal}
+pub gives_up_with_board : (Part : List Line → List Public → Runnable → AnswerValue → Type 0) (paths : BoardFiles) {old new : Journal}
     → OnlyBlames (HaveNoBoardProgram paths.program.names) (board_program_paths paths) old new
-    → GivesUp (AnswersBoard Answers paths) (board_program_paths paths) old new
-gives_up_with_board Answers paths blames =
-    gives_up_unanswered (AnswersBoard Answers paths)
-    (λ files lacks others answer named is. no_board_program paths.board is.board_files is.board is.is_board (IfGiven Answers is.board) files others is.others answer
+    → GivesUp (AnswersRunOnBoard Part paths) (board_program_paths paths) old new
+gives_up_with_board Part paths blames =
+    gives_up_unanswered (AnswersRunOnBoard Part paths)
+    (λ files lacks others answer named is.
+    no_board_program paths.board is.board_files is.board is.is_board (IfGiven (AnswersAmongDevices Part) is.board) files others is.others answer
     is.files_are lacks is.answers)
     blames

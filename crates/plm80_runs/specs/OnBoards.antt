@@ -7,9 +7,8 @@ use Rattle.image80.specs.Image.{Located, memory_of}
 use Rattle.image80_text.specs.NameText.{labelled_text}
 use Rattle.loader80_board.specs.{BoardCounts.IsCounted, declared.counting.BoardCounts.BoardCounts}
 use Rattle.loader80_board.specs.BoardLines.{AreFirstLinesOf, AreLinesOf, IsTraced}
-use Rattle.loader80_board.specs.{BoardSays.IsRunTranscript, OnBoards.StandsOnBoard, declared.running.BoardOutcome.BoardOutcome}
-use Rattle.loader80_board.specs.BoardTranscript.{board_end_line}
-use Rattle.loader80_board.specs.declared.ended.BoardEnded.{BoardEnded}
+use Rattle.loader80_board.specs.BoardTranscript.{IsRunTranscript, board_end_line}
+use Rattle.loader80_board.specs.{OnBoards.StandsOnBoard, declared.ended.BoardEnded.BoardEnded}
 use Rattle.loader80_trace.specs.{Cover.cover_lines, Cover.sums_line, declared.limits.Limits.Limits, declared.limits.Span.Span}
 use Rattle.machine80.specs.World.{World}
 use Rattle.machine80_board.specs.BoardRun.{BoardState, DevicesAreData, IsReached, board_start}
@@ -52,11 +51,6 @@ abbrev pub IfGiven : (Answers : List Line → Located → List Public → Answer
     AnswerValue → Type 0
 IfGiven Answers None image publics answer = ⊥
 IfGiven Answers (Some lines) image publics answer = Answers lines image publics answer
-
--- an answer to a board, an image and its regions, as three files have them
-abbrev pub AnswersBoard : (Answers : List Line → Located → List Public → AnswerValue → Type 0) → BoardFiles → List FileValue →
-    AnswerValue → Type 0
-AnswersBoard Answers files = WithBoard (Some files.board) (λ board. AnswersProgram (IfGiven Answers board) (asks_names files.program))
 
 -- ---- programs that run
 
@@ -121,9 +115,16 @@ pub data AnswersRunnable (Answers : Runnable → AnswerValue → Type 0) (image 
   runs : (program : Runnable) → IsRunnable image publics program → Answers program answer → AnswersRunnable Answers image publics answer
   refused : (line : List ℕ) → IsRefusal image publics line → answer ≡ prints line 1 → AnswersRunnable Answers image publics answer
 
+-- the devices of a board lie in the image's data, and its program or its refusal has such an answer
+pub record AnswersAmongDevices (Answers : List Line → List Public → Runnable → AnswerValue → Type 0) (lines : List Line) (image : Located)
+    (publics : List Public) (answer : AnswerValue) : Type 0 where
+  pub devices : DevicesAreData lines image.regions
+  pub answers : AnswersRunnable (Answers lines publics) image publics answer
+
 -- an answer to a board, the names of a program and the program, as three files have them; or the image's refusal
 abbrev pub AnswersRunOnBoard : (Answers : List Line → List Public → Runnable → AnswerValue → Type 0) → BoardFiles → List FileValue → AnswerValue → Type 0
-AnswersRunOnBoard Answers = AnswersBoard (λ lines image publics. AnswersRunnable (Answers lines publics) image publics)
+AnswersRunOnBoard Answers files =
+    WithBoard (Some files.board) (λ board. AnswersProgram (IfGiven (AnswersAmongDevices Answers) board) (asks_names files.program))
 
 -- what is known of an image that was judged
 abbrev pub IsJudged : Located → List Public → Judged → Type 0
@@ -135,11 +136,10 @@ IsJudged image publics (Refused line) = IsRefusal image publics line.items
 -- The transcript of the program's run on the board is printed behind its first line, with a name in its last one; it has the program's
 -- bytes of stack, and the status is the run's.
 pub record TranscribesRun (limits : Limits) (lines : List Line) (publics : List Public) (program : Runnable) (answer : AnswerValue) : Type 0 where
-  pub outcome : BoardOutcome
+  pub ended : BoardEnded
   pub text : List ℕ
-  pub stack : outcome.stack_bytes ≡ stack_bytes_of program
-  pub transcript : IsRunTranscript lines (image_of program) limits.outputs limits.steps outcome text
-  pub answer_is : answer ≡ prints (first_line program ++ named_ending (image_of program).regions.code publics text) (board_end_status outcome.end)
+  pub transcript : IsRunTranscript lines (image_of program) (stack_bytes_of program) limits ended text
+  pub answer_is : answer ≡ prints (first_line program ++ named_ending (image_of program).regions.code publics text) (board_end_status ended.end)
 
 pub record RunsOnBoard (arguments : BoardRunArguments) (files : List FileValue) (answer : AnswerValue) : Type 0 where
   pub limits : Limits
@@ -158,10 +158,9 @@ abbrev pub board_trace_ending : Located → List Public → Option BoardEnded �
 board_trace_ending image publics None = prints [] 0
 board_trace_ending image publics (Some ended) = board_ending image publics ended
 
--- a text is the lines of a run among devices in data, which ended so if they reached that
+-- a text is the lines of a run, which ended so if they reached that
 pub record TracesLines (limits : Limits) (span : Span) (lines : List Line) (publics : List Public) (image : Located) (text : List ℕ)
     (ended : Option BoardEnded) : Type 0 where
-  pub devices : DevicesAreData lines image.regions
   pub are_lines : AreLinesOf lines image.regions (board_start image) limits span publics true text
   pub traced : IsTraced lines image.regions (board_start image) limits span ended
 
@@ -174,7 +173,6 @@ pub record TracesOnBoard (limits : Limits) (span : Span) (lines : List Line) (pu
 
 -- a text is the program's first line and the lines of a span's first states
 pub record BeginsTrace (limits : Limits) (span : Span) (lines : List Line) (publics : List Public) (program : Runnable) (begun : List ℕ) : Type 0 where
-  pub devices : DevicesAreData lines (image_of program).regions
   pub text : List ℕ
   pub are_lines : AreFirstLinesOf lines (image_of program).regions (board_start (image_of program)) limits span publics true text
   pub is : begun ≡ first_line program ++ text

@@ -2,9 +2,10 @@
 
 ghost use Rattle.std.specs.Prelude.{◌≡◌, None, IfErr, IfNone, IfOk, IfSome, codes, length};
 ghost use Rattle.clap.specs.Matches.{first_value, found_of};
+ghost use Rattle.machine80_board.specs.BoardRun.{DevicesAreData};
 ghost use Rattle.plm80_console.specs.Answer.{Gives, GivesUp};
 ghost use Rattle.plm80_runs.specs.Arguments.{AreBoardCoverArguments};
-ghost use Rattle.plm80_runs.specs.OnBoards.{CoversBoardFiles, CoversOnBoard, CoversProgram, board_program_paths};
+ghost use Rattle.plm80_runs.specs.OnBoards.{CoversBoardFiles, CoversOnBoard, CoversProgram, board_program_paths, image_of};
 
 use crate::board_files::BoardFiles;
 use crate::on_board::{BoardCommand, Ran, print_on_board, print_ran};
@@ -13,7 +14,7 @@ use crate::runnable::Runnable;
 use crate::status::{BoardEndWords, board_status_of};
 use board80::Board;
 use clap::ArgMatches;
-use loader80_board::{BoardRunFault, count_board_steps};
+use loader80_board::count_board_steps;
 use loader80_trace::{Limits, cover, cover_instructions};
 use plm80_console::{Answer, Console, Reported};
 use plm80_names::Names;
@@ -75,21 +76,25 @@ impl BoardCommand for Cover {
         program: &Runnable,
         names: &Names,
         board: &Board,
-        path: &str,
     ) -> Result<u8, Reported> {
         let ran = cover_run(console.alloc(), program, names, board, self.limits);
-        print_ran(console, ran, path)
+        print_ran(console, ran)
     }
 }
 
 /// The code of a program, with how often its run on a board begins each instruction, behind the program's first line; and how the run ends.
+/// The board's devices must lie in the program's data.
+///
+/// # Errors
+/// `AllocError` only if memory runs out.
 fn cover_run(
     alloc: Global,
     program: &Runnable,
     names: &Names,
     board: &Board,
     limits: Limits,
-) -> Result<Ran, BoardRunFault>
+) -> Result<Ran, AllocError>
+    requires { DevicesAreData board.now (image_of program.now).regions }
     ensures { IfOk result (λ ran. CoversOnBoard limits board.now names.now program.now ran.answer) }
 {
     let counts = count_board_steps(alloc, program.image(), board, limits)?;

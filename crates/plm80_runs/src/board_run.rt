@@ -2,9 +2,10 @@
 
 ghost use Rattle.std.specs.Prelude.{◌≡◌, None, IfErr, IfNone, IfOk, IfSome, codes};
 ghost use Rattle.clap.specs.Matches.{first_value, found_of};
+ghost use Rattle.machine80_board.specs.BoardRun.{DevicesAreData};
 ghost use Rattle.plm80_console.specs.Answer.{Gives, GivesUp};
 ghost use Rattle.plm80_runs.specs.Arguments.{AreBoardRunArguments};
-ghost use Rattle.plm80_runs.specs.OnBoards.{RunsOnBoard, TranscribesRun, board_program_paths};
+ghost use Rattle.plm80_runs.specs.OnBoards.{RunsOnBoard, TranscribesRun, board_program_paths, image_of};
 
 use crate::board_files::BoardFiles;
 use crate::endings::name_ending;
@@ -14,11 +15,11 @@ use crate::runnable::Runnable;
 use crate::status::{BoardEndWords, board_status_of};
 use board80::Board;
 use clap::ArgMatches;
-use loader80_board::{BoardReply, BoardRunFault, transcribe_on_board};
+use loader80_board::{BoardTranscript, transcribe_on_board};
 use loader80_trace::Limits;
 use plm80_console::{Answer, Console, Reported};
 use plm80_names::Names;
-use std::alloc::Global;
+use std::alloc::{AllocError, Global};
 
 /// The arguments of the command `run` with a board in place of inputs.
 #[derive(Clone, Copy)]
@@ -75,37 +76,40 @@ impl BoardCommand for Transcript {
         program: &Runnable,
         names: &Names,
         board: &Board,
-        path: &str,
     ) -> Result<u8, Reported> {
         let ran = transcribe(console.alloc(), program, names, board, self.limits);
-        print_ran(console, ran, path)
+        print_ran(console, ran)
     }
 }
 
-/// The transcript of a program's run on a board, behind the program's first line, and how the run ends.
+/// The transcript of a program's run on a board, behind the program's first line, and how the run ends. The board's devices must lie in the
+/// program's data.
+///
+/// # Errors
+/// `AllocError` only if memory runs out.
 fn transcribe(
     alloc: Global,
     program: &Runnable,
     names: &Names,
     board: &Board,
     limits: Limits,
-) -> Result<Ran, BoardRunFault>
+) -> Result<Ran, AllocError>
+    requires { DevicesAreData board.now (image_of program.now).regions }
     ensures { IfOk result (λ ran. TranscribesRun limits board.now names.now program.now ran.answer) }
 {
     let image = program.image();
-    let BoardReply { answer, text } = transcribe_on_board(
+    let BoardTranscript { ended, text } = transcribe_on_board(
         alloc,
         image,
         program.stack_bytes(),
         board,
         limits,
-    );
-    let outcome = answer?;
+    )?;
     let named = name_ending(alloc, image.regions.code(), text.into_bytes(), names)?;
     let mut lines = program.first_line(alloc)?;
     lines.extend_from_slice(&named)?;
     Ok(Ran {
-        answer: Answer::prints(lines, board_status_of(outcome.end)),
-        end: BoardEndWords::of(outcome.end, outcome.at),
+        answer: Answer::prints(lines, board_status_of(ended.end)),
+        end: BoardEndWords::of(ended.end, ended.at),
     })
 }

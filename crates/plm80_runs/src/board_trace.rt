@@ -4,7 +4,8 @@ ghost use Rattle.std.specs.Prelude.{◌≡◌, ◌<◌, ◌++◌, ℕ, List, Non
 ghost use Rattle.std.specs.Io.KnownBytes.{Appends};
 ghost use Rattle.clap.specs.Matches.{first_value, found_of};
 ghost use Rattle.loader80_trace.specs.Traces.{AppendsFront};
-ghost use Rattle.plm80_console.specs.{Answer.Gives, Answer.GivesUp, Answer.IsGiven, Answer.IsGivenUp, Journal.and_reported};
+ghost use Rattle.machine80_board.specs.BoardRun.{DevicesAreData};
+ghost use Rattle.plm80_console.specs.Answer.{Gives, GivesUp, IsGiven, IsGivenUp};
 ghost use Rattle.plm80_names.specs.Fronts.{LeavesFront};
 ghost use Rattle.plm80_runs.specs.Arguments.{AreBoardTraceArguments};
 ghost use Rattle.plm80_runs.specs.OnBoards.{BeginsTrace, TracesBoardFiles, TracesBoardFilesInPart, TracesLines};
@@ -12,19 +13,17 @@ ghost use Rattle.plm80_runs.specs.OnBoards.{TracesOnBoard, TracesOnBoardInPart, 
 
 use crate::board_files::BoardFiles;
 use crate::endings::board_trace_ending_of;
-use crate::on_board::{BoardCommand, print_on_board, report_run};
+use crate::on_board::{BoardCommand, print_on_board};
 use crate::run_arguments::{LimitTexts, SpanTexts};
 use crate::runnable::Runnable;
 use crate::status::BoardEndWords;
 use board80::Board;
 use clap::ArgMatches;
-use loader80_board::{BoardEnded, BoardRunFault, write_board_lines};
+use loader80_board::{BoardEnded, write_board_lines};
 use loader80_trace::{Limits, LineForm, Span, TraceFault};
-use machine80_board::misplaced_device;
 use plm80_console::{Console, Reported};
-use plm80_names::Names;
+use plm80_names::{Names, report_lines};
 use std::alloc::Global;
-use std::io::ErrorKind;
 use stream80::{Sink, write_all};
 
 /// The arguments of the command `trace` with a board in place of inputs.
@@ -86,20 +85,19 @@ impl BoardCommand for Trace {
         program: &Runnable,
         names: &Names,
         board: &Board,
-        path: &str,
     ) -> Result<u8, Reported> {
         let mut output = console.output();
         let written = write_trace(console.alloc(), program, names, board, self, &mut output);
         let failure = console.take_back(output);
         match written {
             Ok(ended) => end_trace(console, program, &ended, names),
-            Err(fault) => Err(report_lines(console, path, fault, failure)),
+            Err(fault) => Err(report_lines(console, fault, failure)),
         }
     }
 }
 
 /// Writes the first line of a program, if it has one, and behind it the instructions of its run on a board. Returns how the run ended if
-/// they reach that. Nothing is written if a device doesn't lie in the program's data.
+/// they reach that. The board's devices must lie in the program's data.
 fn write_trace<K: Sink>(
     alloc: Global,
     program: &Runnable,
@@ -107,23 +105,28 @@ fn write_trace<K: Sink>(
     board: &Board,
     trace: Trace,
     out: &mut K,
-) -> Result<Option<BoardEnded>, BoardRunFault>
-    requires { K.failed out.old < u64.MAX }
+) -> Result<Option<BoardEnded>, TraceFault>
+    requires countable { K.failed out.old < u64.MAX }
+    requires devices { DevicesAreData board.now (image_of program.now).regions }
     ensures written { IfOk result (λ ended. (text : List ℕ) × Appends (K.written out.old) (K.written out.new) (first_line program.now ++ text)
         × TracesLines trace.limits trace.span board.now names.now (image_of program.now) text ended) }
     ensures front { OnErr result (LeavesFront (BeginsTrace trace.limits trace.span board.now names.now program.now)
         (K.written out.old) (K.written out.new)) }
 {
-    let image = program.image();
-    if let Some(number) = misplaced_device(board, &image.regions) {
-        return Err(BoardRunFault::DeviceOutsideData(number));
-    }
     write_first(alloc, program, out)?;
     let form = LineForm {
         numbered: true,
         publics: names.publics(),
     };
-    write_board_lines(alloc, image, board, trace.limits, trace.span, form, out)
+    write_board_lines(
+        alloc,
+        program.image(),
+        board,
+        trace.limits,
+        trace.span,
+        form,
+        out,
+    )
 }
 
 /// Writes the first line of a program, if it has one.
@@ -136,21 +139,6 @@ fn write_first<K: Sink>(alloc: Global, program: &Runnable, out: &mut K) -> Resul
     let first = program.first_line(alloc)?;
     write_all(out, &first)?;
     Ok(())
-}
-
-/// Reports why the instructions of a run on the board whose text has this path weren't all printed.
-fn report_lines<C: Console>(
-    console: &mut C,
-    path: &str,
-    fault: BoardRunFault,
-    failure: Option<ErrorKind>,
-) -> Reported
-    ensures { C.journal console.new ≡ and_reported (C.journal console.old) }
-{
-    match fault {
-        BoardRunFault::Write => console.report_output(failure),
-        _ => report_run(console, path, fault),
-    }
 }
 
 /// Prints how a run ended, if its lines reached that, and returns the exit status: 0 if they didn't.

@@ -64,7 +64,7 @@ pub fn board_ending_of(
 ) -> Result<Answer<'static>, AllocError>
     ensures { IfOk result (λ answer. answer ≡ board_ending image.now names.now ended.now) }
 {
-    let text = board_ending_text(alloc, ended.end, ended.at, ended.steps)?.into_bytes();
+    let text = board_ending_text(alloc, *ended)?.into_bytes();
     let text = name_ending(alloc, image.regions.code(), text, names)?;
     Ok(Answer::prints(text, board_status_of(ended.end)))
 }

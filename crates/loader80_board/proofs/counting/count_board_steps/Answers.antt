@@ -10,7 +10,8 @@ use Rattle.loader80_board.proofs.counting.count_board_steps.Goals as goal
 
 pub count_each-requires-clause-rules : goal.count_each-requires-clause-rules
 count_each-requires-clause-rules c = record {
-  in_data = subst (λ (l : List Line). DevicesAreData l c.image.inside.regions) (sym c.in_ok-lines.ensures) c.in_default.ensures.none;
+  in_data = subst (λ (l : List Line). DevicesAreData l c.image.inside.regions) (sym c.in_ok-lines.ensures)
+      (subst (λ (r : Areas). DevicesAreData c.args.board.now r) (sym (ap (λ (v : Located). v.regions) c.image.view_is)) c.requires);
   regions = c.stack.ensures.rules;
 }
 
@@ -25,8 +26,4 @@ returns c =
     let both = subst (λ (l : List Line). EndsSo l image.regions (board_start image) c.args.limits c.in_ok-ended.ended × CountsSteps l image.regions c.args.limits.outputs (board_start image) c.in_ok-ended.ended.steps c.count_each.new.counts.items) c.in_ok-lines.ensures
     (subst (λ (r : Areas). EndsSo c.in_ok-lines.lines r (board_start image) c.args.limits c.in_ok-ended.ended × CountsSteps c.in_ok-lines.lines r c.args.limits.outputs (board_start image) c.in_ok-ended.ended.steps c.count_each.new.counts.items) regions
     (c.in_ok-ended.ensures.counted (board_start image) now)) in
-    record {
-      devices = subst (λ (r : Areas). DevicesAreData c.args.board.now r) regions c.in_default.ensures.none;
-      ended = both.0;
-      counted = both.1;
-    }
+    record { ended = both.0; counted = both.1 }
