@@ -4,7 +4,7 @@ use Rattle.std.specs.List.{list_all, range_with_len}
 use Rattle.std.proofs.lemmas.Bool.{eqb-true}
 use Rattle.std.proofs.lemmas.List.Sums.{AllPass-from_list_all}
 use Rattle.std.proofs.lemmas.List.FromFn.{get_or-range_with_len}
-use Rattle.page80.specs.Reading.{Reading, text, tag, reference, reading_after, shown_from}
+use Rattle.page80.specs.Reading.{Reading, text, tag, ampersand, number, reference, other, reading_after, shown_from}
 use Rattle.page80.specs.Escaped.{escaped, EscapedIsShown, IsHarmless}
 
 is_single : ℕ → List ℕ → Bool
@@ -20,14 +20,16 @@ single b (x ∷ y ∷ ys) h = cc
 
 is_text : Reading → Bool
 is_text text = true
-is_text tag = false
-is_text (reference value) = false
+is_text _ = false
 
 in_text : (r : Reading) → is_text r ≡ true → r ≡ text
 unfolding is_text
 in_text text h = refl
 in_text tag h = cc
+in_text ampersand h = cc
+in_text number h = cc
 in_text (reference value) h = cc
+in_text other h = cc
 
 is_harmless : ℕ → Bool
 is_harmless b = not ((b == 60 || b == 62) || (b == 34 || b == 39))

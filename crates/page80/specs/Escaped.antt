@@ -1,16 +1,12 @@
 -- Text in a page: each byte as it is, or as a reference.
 -- (HTML Living Standard, 13.1.4 Character references. The bytes without a character are those that are no printable ASCII.)
-use Rattle.std.specs.Prelude.{◌≡◌, ◌≢◌, ◌<◌, ℕ, ◌==◌, ◌||◌, ◌&&◌, Bool, nat_lt, if◌then◌else◌, List, [], ◌∷◌, ◌++◌, All, codes}
+use Rattle.std.specs.Prelude.{◌≡◌, ◌≢◌, ◌<◌, ℕ, ◌==◌, ◌||◌, Bool, if◌then◌else◌, List, [], ◌∷◌, ◌++◌, All, codes}
 use Rattle.text80.specs.Digits.{byte_text}
-use Rattle.page80.specs.Reading.{text, reading_after, shown_from}
+use Rattle.page80.specs.Reading.{is_printable, text, reading_after, shown_from}
 
 -- a byte that could be read as markup: a quote, an ampersand, an apostrophe, or what begins or ends a tag
 abbrev pub is_markup : ℕ → Bool
 is_markup byte = (byte == 34 || byte == 38) || (byte == 39 || (byte == 60 || byte == 62))
-
--- a byte with a character of its own: printable, or the end of a line
-abbrev pub is_printable : ℕ → Bool
-is_printable byte = byte == 10 || (nat_lt 31 byte && nat_lt byte 127)
 
 abbrev pub escaped : ℕ → List ℕ
 escaped byte =

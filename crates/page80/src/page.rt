@@ -1,10 +1,10 @@
 //! A page that is being written.
 
 ghost use Rattle.std.specs.Prelude.{◌≡◌, [], ◌∷◌, ◌++◌, IfOk, OnOk, codes};
-ghost use Rattle.page80.specs.Escaped.{is_markup, is_printable};
+ghost use Rattle.page80.specs.Escaped.{is_markup};
 ghost use Rattle.text80.specs.Digits.{byte_text};
 ghost use Rattle.page80.specs.Pieces.{IsMarkup, IsWhole};
-ghost use Rattle.page80.specs.Reading.{shown_in};
+ghost use Rattle.page80.specs.Reading.{is_printable, shown_in};
 
 use crate::laws::escaped_text_is_shown;
 use crate::style::HEAD;

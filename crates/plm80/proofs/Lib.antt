@@ -1,4 +1,5 @@
 mod ApartLemmas
+mod BesideLemmas
 mod BundleLemmas
 mod ProgramLemmas
 mod SpelledLemmas

@@ -1,8 +1,8 @@
 -- The command line: each command with its arguments, as clap reads them, and the words that clap is given.
 -- (The commands and their options are this project's own.)
-use Rattle.std.specs.Prelude.{ℕ, true, false, List, [], ◌∷◌, ◌++◌, Option, codes, find}
+use Rattle.std.specs.Prelude.{◌≡◌, ◌||◌, ℕ, Bool, true, false, List, [], ◌∷◌, ◌++◌, None, Option, Some, codes, filter_map, find, if◌then◌else◌, map}
 use Rattle.std.specs.{Option.option_map_or, Str.bytes_eq}
-use Rattle.clap.specs.{Simple.App, Simple.Shape, Simple.new_shape, Walk.Rule}
+use Rattle.clap.specs.{Simple.App, Simple.Shape, Simple.new_shape, Takes.takes, Walk.Rule, Walk.is_empty}
 use Rattle.plm80_console.specs.JoinedValues.{joined_values}
 use Rattle.plm80_console.specs.SyntaxTable.{command_with, flag, option, option_beside, option_or, position, positions, repeated_option, required_option}
 
@@ -75,11 +75,32 @@ abbrev pub commands : List Shape
 commands = object_commands ++ verifier_commands ++ run_commands ++ prom_commands
 
 -- the program: its version is printed by `--version`, and no command line is taken without a command
-abbrev pub plm80_app : App
-plm80_app = record {
-  top = record (new_shape (codes "plm80")) { is_leaf = false; has_version = true; subcommand_required = true };
+abbrev pub app_with : List Shape → App
+app_with commands = record {
+  top = record (new_shape (codes "plm80")) { is_leaf = is_empty commands; has_version = true; subcommand_required = true };
   subs = commands;
 }
+
+abbrev pub plm80_app : App
+plm80_app = app_with commands
+
+-- what a `--board` stands in place of
+abbrev pub is_replaced : (name : List ℕ) → Bool
+is_replaced name = bytes_eq name (codes "INPUTS") || (bytes_eq name (codes "last") || (bytes_eq name (codes "dump")
+    || (bytes_eq name (codes "rom-range") || (bytes_eq name (codes "ram-range") || (bytes_eq name (codes "quiet-ram")
+    || bytes_eq name (codes "handler"))))))
+
+-- an argument of command lines without a `--board` that stands in place of others, or of those with one: it is required there, and they are gone
+abbrev pub rule_beside : (boarded : Bool) → Rule → Option Rule
+rule_beside false rule = if rule.is_free then Some rule else None
+rule_beside true rule = if rule.is_free then (if is_replaced rule.id then None else Some rule) else Some (record rule { is_free = true; required = true })
+
+abbrev pub beside : (boarded : Bool) → Shape → Shape
+beside boarded command = record command { rules = filter_map (rule_beside boarded) command.rules }
+
+-- clap doesn't take the words, neither without such a `--board` nor with one
+abbrev pub IsUntaken : (words : List (List ℕ)) → Type 0
+IsUntaken words = (boarded : Bool) → takes (app_with (map (beside boarded) commands)) words ≡ false
 
 abbrev pub command_named : (name : List ℕ) → Option Shape
 command_named name = find (λ command. bytes_eq command.name name) commands

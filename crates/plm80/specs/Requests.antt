@@ -1,12 +1,13 @@
 -- What each request is, and what is done for it. (The commands and their statuses are this project's own.)
 use Rattle.std.specs.Prelude.{◌≡◌, ◌⊎◌, ℕ, Bool, true, false, List, [], ◌∷◌, ◌++◌, None, Some, Option, String, map, codes, string_bytes}
 use Rattle.std.specs.Str.{bytes_eq}
-use Rattle.clap.specs.{declared.parser.matches.ArgMatches.ArgMatches, Matches.first_value, Matches.found_of, Simple.subcommand_of, Takes.takes, Walk.Row, Walk.rows_of}
-use Rattle.plm80_console.specs.Journal.{Blames, Journal}
-use Rattle.plm80_console.specs.{Answer.Gives, Answer.GivesUp, Arguments.argument_text}
+use Rattle.clap.specs.{declared.parser.matches.ArgMatches.ArgMatches, Matches.first_value, Matches.found_of, Simple.subcommand_of, Walk.Row, Walk.rows_of}
+use Rattle.plm80_console.specs.Journal.{Blames, FileValue, Journal}
+use Rattle.plm80_console.specs.{Answer.AnswerValue, Answer.Gives, Answer.GivesUp, Arguments.argument_text}
+use Rattle.plm80_objects.specs.declared.library.LibraryArguments.{LibraryArguments}
 use Rattle.plm80_boards.specs.Boards.{WithBoard, board_paths}
 use Rattle.plm80_names.specs.{Arguments.asks_names, Arguments.program_paths, Verdict.AnswersProgram}
-use Rattle.plm80_objects.specs.Absolute.{ExtractsFile, GivesDumps, GivesUpDumps}
+use Rattle.plm80_objects.specs.Absolute.{ExtractsFile, WritesDumps, dump_paths}
 use Rattle.plm80_objects.specs.Arguments.{AreAbsoluteArguments, AreCompareArguments, AreExtractArguments, AreFindArguments, AreLibraryArguments, AreLinkArguments, AreLocateArguments, AreMapArguments}
 use Rattle.plm80_objects.specs.Modules.{AnswersModules, DescribesModules, GivesUpLibrary, LocatesFile, MapsFile, WritesLibrary}
 use Rattle.plm80_objects.specs.{Compare.ComparesFiles, Find.FindsModules, Link.LinksFiles}
@@ -23,8 +24,8 @@ use Rattle.plm80_runs.specs.InputWords.{AnswersWords, AreInputsArguments}
 use Rattle.plm80_programs.specs.Explanations.{PrintsExplanation}
 use Rattle.plm80_regions.specs.Suggest.{AnswersAdvice, AreSuggestArguments}
 use Rattle.plm80_regions.specs.Written.{AnswersRegions}
-use Rattle.plm80.specs.{Apart.AreApartIn, CommandLine.joined_words, CommandLine.plm80_app, declared.commands.arguments.Request.Request}
-use Rattle.plm80.specs.declared.commands.arguments.NoRequest.{NoRequest, TheVariants.Files, TheVariants.Words}
+use Rattle.plm80.specs.{Apart.AreApartIn, CommandLine.IsUntaken, CommandLine.joined_words, CommandLine.plm80_app, declared.commands.arguments.Request.Request}
+use Rattle.plm80.specs.declared.commands.arguments.NoRequest.{NoRequest, TheVariants.Refused, TheVariants.Untaken}
 use Rattle.plm80.specs.declared.commands.arguments.Request.TheVariants as request
 
 -- its name on the command line
@@ -95,66 +96,50 @@ pub record IsRequestOf (read : Option (List ℕ × List Row)) (request : Request
 
 -- whether clap doesn't take the words
 abbrev pub is_of_words : NoRequest → Bool
-is_of_words (Words error) = true
-is_of_words (Files error) = false
+is_of_words (Untaken error) = true
+is_of_words (Refused error) = false
+
+-- what is done for it, by verbs: answers that are given whole to the files of these paths, or of which a front part may be; and a library that is
+-- written
+abbrev pub Does : (Whole : (Answers : List FileValue → AnswerValue → Type 0) → (paths : List (List ℕ)) → Type 0)
+    → (InPart : (Answers Begun : List FileValue → AnswerValue → Type 0) → (paths : List (List ℕ)) → Type 0)
+    → (Library : LibraryArguments → Type 0) → Request → Type 0
+Does Whole InPart Library (request.Link arguments) = Whole (LinksFiles arguments) (map (λ path. path.now) arguments.files.items)
+Does Whole InPart Library (request.Locate arguments) = Whole (WithBoard arguments.board (LocatesFile arguments)) (board_paths arguments.board ++ arguments.object.now ∷ [])
+Does Whole InPart Library (request.Run arguments) = Whole (RunsFiles arguments) (run_paths arguments.files)
+Does Whole InPart Library (request.RunOnBoard arguments) = Whole (RunsOnBoard arguments) (board_program_paths arguments.files)
+Does Whole InPart Library (request.List arguments) = Whole (AnswersProgram (PrintsListing arguments.reached arguments.source) (asks_names arguments.files)) (program_paths arguments.files)
+Does Whole InPart Library (request.Check arguments) = Whole (WithBoard arguments.board (λ _. AnswersProgram PrintsReport (asks_names arguments.files))) (board_paths arguments.board ++ program_paths arguments.files)
+Does Whole InPart Library (request.Explain arguments) = Whole (WithBoard arguments.board (λ _. AnswersProgram (PrintsExplanation arguments.all) (asks_names arguments.files))) (board_paths arguments.board ++ program_paths arguments.files)
+Does Whole InPart Library (request.Library arguments) = Library arguments
+Does Whole InPart Library (request.Regions arguments) = Whole (AnswersRegions arguments.new.now) (arguments.old.now ∷ [])
+Does Whole InPart Library (request.Cases arguments) = InPart (AnswersCases (cases_path arguments)) (AnswersCasesInPart (cases_path arguments)) (arguments.image.now ∷ arguments.regions.now ∷ [])
+Does Whole InPart Library (request.Map arguments) = Whole (MapsFile arguments) (arguments.object.now ∷ [])
+Does Whole InPart Library (request.Extract arguments) = Whole (ExtractsFile arguments) (arguments.image.now ∷ [])
+Does Whole InPart Library (request.Absolute arguments) = Whole (WritesDumps arguments) (dump_paths arguments)
+Does Whole InPart Library (request.Stores arguments) = Whole (WithBoard arguments.board (AnswersStores arguments)) (board_paths arguments.board ++ program_paths arguments.files)
+Does Whole InPart Library (request.Follow arguments) = Whole (WithBoard arguments.board (AnswersFollowing arguments)) (board_paths arguments.board ++ program_paths arguments.files)
+Does Whole InPart Library (request.Compare arguments) = Whole (ComparesFiles arguments) (arguments.image.now ∷ arguments.dump.now ∷ [])
+Does Whole InPart Library (request.Inputs arguments) = Whole (AnswersWords arguments) []
+Does Whole InPart Library (request.Calls arguments) = Whole (WithBoard arguments.board (λ _. AnswersProgram (PrintsCalls arguments.dot) (asks_names arguments.files))) (board_paths arguments.board ++ program_paths arguments.files)
+Does Whole InPart Library (request.Trace arguments) = InPart (TracesFiles arguments) (TracesFilesInPart arguments) (run_paths arguments.files)
+Does Whole InPart Library (request.TraceOnBoard arguments) = InPart (TracesBoardFiles arguments) (TracesBoardFilesInPart arguments) (board_program_paths arguments.files)
+Does Whole InPart Library (request.Cover arguments) = Whole (CoversFiles arguments) (run_paths arguments.files)
+Does Whole InPart Library (request.CoverOnBoard arguments) = Whole (CoversBoardFiles arguments) (board_program_paths arguments.files)
+Does Whole InPart Library (request.Module arguments) = Whole (AnswersModules DescribesModules) (arguments.object.now ∷ [])
+Does Whole InPart Library (request.Find arguments) = Whole (FindsModules arguments) (arguments.dump.now ∷ map (λ path. path.now) arguments.files.items)
+Does Whole InPart Library (request.Suggest arguments) = Whole (WithBoard arguments.board (AnswersAdvice arguments)) (board_paths arguments.board ++ arguments.image.now ∷ [])
+Does Whole InPart Library (request.Report arguments) = Whole (AnswersProgram (AnswersPage arguments.out.now) arguments.files.names) (program_paths arguments.files)
 
 -- it is done: its files were read, its answer was given, and the status is the answer's
 abbrev pub IsPerformed : Request → (old new : Journal) → (status : ℕ) → Type 0
-IsPerformed (request.Link arguments) old new status = Gives (LinksFiles arguments) (map (λ path. path.now) arguments.files.items) old new status
-IsPerformed (request.Locate arguments) old new status = Gives (WithBoard arguments.board (LocatesFile arguments)) (board_paths arguments.board ++ arguments.object.now ∷ []) old new status
-IsPerformed (request.Run arguments) old new status = Gives (RunsFiles arguments) (run_paths arguments.files) old new status
-IsPerformed (request.RunOnBoard arguments) old new status = Gives (RunsOnBoard arguments) (board_program_paths arguments.files) old new status
-IsPerformed (request.List arguments) old new status = Gives (AnswersProgram (PrintsListing arguments.reached arguments.source) (asks_names arguments.files)) (program_paths arguments.files) old new status
-IsPerformed (request.Check arguments) old new status = Gives (WithBoard arguments.board (λ _. AnswersProgram PrintsReport (asks_names arguments.files))) (board_paths arguments.board ++ program_paths arguments.files) old new status
-IsPerformed (request.Explain arguments) old new status = Gives (WithBoard arguments.board (λ _. AnswersProgram (PrintsExplanation arguments.all) (asks_names arguments.files))) (board_paths arguments.board ++ program_paths arguments.files) old new status
-IsPerformed (request.Library arguments) old new status = WritesLibrary arguments old new status
-IsPerformed (request.Regions arguments) old new status = Gives (AnswersRegions arguments.new.now) (arguments.old.now ∷ []) old new status
-IsPerformed (request.Cases arguments) old new status = Gives (AnswersCases (cases_path arguments)) (arguments.image.now ∷ arguments.regions.now ∷ []) old new status
-IsPerformed (request.Map arguments) old new status = Gives (MapsFile arguments) (arguments.object.now ∷ []) old new status
-IsPerformed (request.Extract arguments) old new status = Gives (ExtractsFile arguments) (arguments.image.now ∷ []) old new status
-IsPerformed (request.Absolute arguments) old new status = GivesDumps arguments old new status
-IsPerformed (request.Stores arguments) old new status = Gives (WithBoard arguments.board (AnswersStores arguments)) (board_paths arguments.board ++ program_paths arguments.files) old new status
-IsPerformed (request.Follow arguments) old new status = Gives (WithBoard arguments.board (AnswersFollowing arguments)) (board_paths arguments.board ++ program_paths arguments.files) old new status
-IsPerformed (request.Compare arguments) old new status = Gives (ComparesFiles arguments) (arguments.image.now ∷ arguments.dump.now ∷ []) old new status
-IsPerformed (request.Inputs arguments) old new status = Gives (AnswersWords arguments) ([]) old new status
-IsPerformed (request.Calls arguments) old new status = Gives (WithBoard arguments.board (λ _. AnswersProgram (PrintsCalls arguments.dot) (asks_names arguments.files))) (board_paths arguments.board ++ program_paths arguments.files) old new status
-IsPerformed (request.Trace arguments) old new status = Gives (TracesFiles arguments) (run_paths arguments.files) old new status
-IsPerformed (request.TraceOnBoard arguments) old new status = Gives (TracesBoardFiles arguments) (board_program_paths arguments.files) old new status
-IsPerformed (request.Cover arguments) old new status = Gives (CoversFiles arguments) (run_paths arguments.files) old new status
-IsPerformed (request.CoverOnBoard arguments) old new status = Gives (CoversBoardFiles arguments) (board_program_paths arguments.files) old new status
-IsPerformed (request.Module arguments) old new status = Gives (AnswersModules DescribesModules) (arguments.object.now ∷ []) old new status
-IsPerformed (request.Find arguments) old new status = Gives (FindsModules arguments) (arguments.dump.now ∷ map (λ path. path.now) arguments.files.items) old new status
-IsPerformed (request.Suggest arguments) old new status = Gives (WithBoard arguments.board (AnswersAdvice arguments)) (board_paths arguments.board ++ arguments.image.now ∷ []) old new status
-IsPerformed (request.Report arguments) old new status = Gives (AnswersProgram (AnswersPage arguments.out.now) arguments.files.names) (program_paths arguments.files) old new status
+IsPerformed request old new status = Does (λ Answers paths. Gives Answers paths old new status) (λ Answers Begun paths. Gives Answers paths old new status)
+    (λ arguments. WritesLibrary arguments old new status) request
 
 -- it isn't: a fault was reported, once, and what was written and printed before is part of its answer
 abbrev pub IsFailed : Request → (old new : Journal) → Type 0
-IsFailed (request.Link arguments) old new = GivesUp (LinksFiles arguments) (map (λ path. path.now) arguments.files.items) old new
-IsFailed (request.Locate arguments) old new = GivesUp (WithBoard arguments.board (LocatesFile arguments)) (board_paths arguments.board ++ arguments.object.now ∷ []) old new
-IsFailed (request.Run arguments) old new = GivesUp (RunsFiles arguments) (run_paths arguments.files) old new
-IsFailed (request.RunOnBoard arguments) old new = GivesUp (RunsOnBoard arguments) (board_program_paths arguments.files) old new
-IsFailed (request.List arguments) old new = GivesUp (AnswersProgram (PrintsListing arguments.reached arguments.source) (asks_names arguments.files)) (program_paths arguments.files) old new
-IsFailed (request.Check arguments) old new = GivesUp (WithBoard arguments.board (λ _. AnswersProgram PrintsReport (asks_names arguments.files))) (board_paths arguments.board ++ program_paths arguments.files) old new
-IsFailed (request.Explain arguments) old new = GivesUp (WithBoard arguments.board (λ _. AnswersProgram (PrintsExplanation arguments.all) (asks_names arguments.files))) (board_paths arguments.board ++ program_paths arguments.files) old new
-IsFailed (request.Library arguments) old new = GivesUpLibrary arguments old new
-IsFailed (request.Regions arguments) old new = GivesUp (AnswersRegions arguments.new.now) (arguments.old.now ∷ []) old new
-IsFailed (request.Cases arguments) old new = GivesUp (AnswersCasesInPart (cases_path arguments)) (arguments.image.now ∷ arguments.regions.now ∷ []) old new
-IsFailed (request.Map arguments) old new = GivesUp (MapsFile arguments) (arguments.object.now ∷ []) old new
-IsFailed (request.Extract arguments) old new = GivesUp (ExtractsFile arguments) (arguments.image.now ∷ []) old new
-IsFailed (request.Absolute arguments) old new = GivesUpDumps arguments old new
-IsFailed (request.Stores arguments) old new = GivesUp (WithBoard arguments.board (AnswersStores arguments)) (board_paths arguments.board ++ program_paths arguments.files) old new
-IsFailed (request.Follow arguments) old new = GivesUp (WithBoard arguments.board (AnswersFollowing arguments)) (board_paths arguments.board ++ program_paths arguments.files) old new
-IsFailed (request.Compare arguments) old new = GivesUp (ComparesFiles arguments) (arguments.image.now ∷ arguments.dump.now ∷ []) old new
-IsFailed (request.Inputs arguments) old new = GivesUp (AnswersWords arguments) ([]) old new
-IsFailed (request.Calls arguments) old new = GivesUp (WithBoard arguments.board (λ _. AnswersProgram (PrintsCalls arguments.dot) (asks_names arguments.files))) (board_paths arguments.board ++ program_paths arguments.files) old new
-IsFailed (request.Trace arguments) old new = GivesUp (TracesFilesInPart arguments) (run_paths arguments.files) old new
-IsFailed (request.TraceOnBoard arguments) old new = GivesUp (TracesBoardFilesInPart arguments) (board_program_paths arguments.files) old new
-IsFailed (request.Cover arguments) old new = GivesUp (CoversFiles arguments) (run_paths arguments.files) old new
-IsFailed (request.CoverOnBoard arguments) old new = GivesUp (CoversBoardFiles arguments) (board_program_paths arguments.files) old new
-IsFailed (request.Module arguments) old new = GivesUp (AnswersModules DescribesModules) (arguments.object.now ∷ []) old new
-IsFailed (request.Find arguments) old new = GivesUp (FindsModules arguments) (arguments.dump.now ∷ map (λ path. path.now) arguments.files.items) old new
-IsFailed (request.Suggest arguments) old new = GivesUp (WithBoard arguments.board (AnswersAdvice arguments)) (board_paths arguments.board ++ arguments.image.now ∷ []) old new
-IsFailed (request.Report arguments) old new = GivesUp (AnswersProgram (AnswersPage arguments.out.now) arguments.files.names) (program_paths arguments.files) old new
+IsFailed request old new = Does (λ Answers paths. GivesUp Answers paths old new) (λ Answers Begun paths. GivesUp Begun paths old new)
+    (λ arguments. GivesUpLibrary arguments old new) request
 
 -- one of both, with the exit status
 abbrev pub IsDone : Request → (old new : Journal) → (status : ℕ) → Type 0
@@ -163,7 +148,7 @@ IsDone request old new status = IsPerformed request old new status ⊎ ((status 
 -- what comes of a command line of these words: help or what is wrong with them was printed, which blames them only if clap doesn't take
 -- them; or the request that they spell is done
 abbrev pub IsCommandDone : (words : List (List ℕ)) → (old new : Journal) → (status : ℕ) → Type 0
-IsCommandDone words old new status = ((status ≡ 2) × Blames (takes plm80_app (joined_words words) ≡ false) old new)
+IsCommandDone words old new status = ((status ≡ 2) × Blames (IsUntaken (joined_words words)) old new)
     ⊎ ((request : Request) × IsRequestOf (subcommand_of plm80_app (joined_words words)) request × IsDone request old new status)
 
 -- the program's name alone, or `--why` alone behind it, asks for a bundle; every other command line for a command

@@ -8,6 +8,7 @@ ghost use Rattle.plm80.specs.Requests.{IsCommandDone, IsDone, IsFailed, IsPerfor
 mod arguments;
 mod joined_words;
 mod program_syntax;
+mod untaken;
 
 use arguments::{NoRequest, Request, read_arguments};
 use joined_words::joined_words;
@@ -38,8 +39,8 @@ pub fn run_command<C: Console>(console: &mut C, arguments: &[String]) -> ExitCod
     };
     let (request, why) = match read_arguments(console, &words) {
         Ok(asked) => asked,
-        Err(NoRequest::Words(error)) => return console.blame_usage(&error).status(),
-        Err(NoRequest::Files(error)) => return console.report_usage(&error).status(),
+        Err(NoRequest::Untaken(error)) => return console.blame_usage(&error).status(),
+        Err(NoRequest::Refused(error)) => return console.report_usage(&error).status(),
     };
     explain_if(console, why);
     do_request(console, request)

@@ -79,8 +79,8 @@ AreAllRead = AreRead AreModulesOf
 abbrev pub library_paths : LibraryArguments → List (List ℕ)
 library_paths arguments = map (λ path. path.now) arguments.files.items
 
--- The files were read, and the library of their modules, which one library can hold, was written; a copy of an object file in its place was
--- kept before.
+-- The files were read, and the library of their modules, which one library can hold, was written. (That a copy of an object file in its place is
+-- kept before is tested.)
 pub record WritesLibrary (arguments : LibraryArguments) (old new : Journal) (status : ℕ) : Type 0 where
   pub between : Journal
   pub modules : List ModuleValue

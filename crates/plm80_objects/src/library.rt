@@ -71,7 +71,7 @@ impl<'a> LibraryArguments<'a> {
 }
 
 /// Does `lib`: writes the library of all modules of the object files, and returns the exit status. No file is created or changed before
-/// every other fault is excluded; of a file in its place that is no library a copy is kept.
+/// every other fault is excluded. Of a file in its place that is no library a copy is kept, which tests show.
 pub fn write_library_file<C: Console>(
     console: &mut C,
     arguments: &LibraryArguments<'_>,

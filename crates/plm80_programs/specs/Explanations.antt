@@ -8,7 +8,7 @@ use Rattle.verify80_flow.specs.Refusal.{refusal_address, refusal_code}
 use Rattle.verify80_flow.specs.{declared.refusal.Refusal.Refusal, declared.report.ProcRow.ProcRow, Accepted.IsMeasured, Faults.Holds}
 use Rattle.verify80.specs.{Looking.code_of, Vouched.Voucher}
 use Rattle.verify80_explain.specs.{declared.conditions.Conditions.Conditions, declared.explaining_all.FurtherRefusals.FurtherRefusals}
-use Rattle.verify80_explain.specs.{declared.explaining_all.ShownRefusal.ShownRefusal, Conditions.AreShownIf, Shows.IsShown}
+use Rattle.verify80_explain.specs.{declared.explaining_all.ShownRefusal.ShownRefusal, Conditions.AreShownIf, Order.AreShownInOrder, Shows.IsShown}
 use Rattle.verify80_explain_text.specs.{Conditions.conditions_text, Explained.explanation_text, Printed.GoesOnWithChain, Printed.GoesOnWithWays, Printed.too_many}
 use Rattle.plm80_console.specs.Answer.{AnswerValue, prints}
 use Rattle.plm80_names.specs.{Printed.named_refusal_line, Printed.named_refusal_report, Printed.named_report, Verdict.IsAccepted}
@@ -90,8 +90,8 @@ pub data ShowsRest (image : Located) (publics : List Public) (refusal : Refusal)
   behind : (rest : List ℕ) → list_any (is_of refusal) shown ≡ false → ShowsRefusal image publics refusal rest → further ≡ 1
       → text ≡ before ++ rest → ShowsRest image publics refusal shown further before text
 
--- refusals, each with what shows it; that there are more, if a search says so; the verifier's refusal, if it is none of these; how many are
--- shown; and behind them those that are reached on conditions, with these
+-- refusals by address and number, each once and with what shows it; that there are more, if a search says so; the verifier's refusal, if it is
+-- none of these; how many are shown; and behind them those that are reached on conditions, with these
 pub record ShowsAll (image : Located) (publics : List Public) (refusal : Refusal) (text : List ℕ) : Type 0 where
   pub shown : List ShownRefusal
   pub are_all : Bool
@@ -99,6 +99,7 @@ pub record ShowsAll (image : Located) (publics : List Public) (refusal : Refusal
   pub are_all_further : Bool
   pub own : ℕ
   pub lines : List ℕ
+  pub in_order : AreShownInOrder shown
   pub each : All (IsShown (code_of image)) shown
   pub each_further : All (AreShownIf (code_of image)) further
   pub rest : ShowsRest image publics refusal shown own (flat_map (shown_lines image publics) shown ++ limit_line are_all) lines

@@ -10,7 +10,7 @@ use Rattle.image80_text.specs.NameText.{labelled_text}
 use Rattle.loader80_trace.specs.Cover.{cover_lines}
 use Rattle.verify80.specs.{Looking.code_of, Vouched.Voucher}
 use Rattle.verify80_flow.specs.{declared.refusal.Refusal.Refusal, declared.refusal.Refusal.TheVariants.Memory, Faults.Holds}
-use Rattle.verify80_follow.specs.{Promise.PromiseOf, Reaching.AreFollowed, Reaching.places_of}
+use Rattle.verify80_follow.specs.{Fitting.IsFit, Promise.PromiseOf, Reaching.AreFollowed, Reaching.places_of}
 use Rattle.verify80_stores.specs.Boards.{is_quiet}
 use Rattle.plm80_console.specs.Answer.{AnswerValue, prints}
 use Rattle.plm80_names.specs.Verdict.{IsAccepted}
@@ -18,12 +18,13 @@ use Rattle.plm80_programs.specs.declared.followed.FollowedCode.{FollowedCode}
 use Rattle.plm80_programs.specs.declared.reached.Unproved.{Unproved}
 use Rattle.plm80_programs.specs.Reached.{ShowsRefusals}
 
--- a table keeps the promise of followed programs on every board whose devices write to data alone; and the image's instructions at which its
--- states stand
+-- a table fits, and keeps the promise of followed programs on every board whose devices write to data alone; and the image's instructions at
+-- which its states stand
 pub record IsFollowedCode (image : Located) (code : FollowedCode) : Type 0 where
   pub is_set : Bool
   pub promise : PromiseOf false image (is_quiet image.regions []) is_set (places_of code.table []) code.table.ways.items
       code.table.listed code.table.bytes
+  pub fit : IsFit image false (is_quiet image.regions []) is_set code.table
   pub reached : AreFollowed image (places_of code.table []) code.reached.items
 
 -- what is printed of an image that is refused: the code that is followed, with status 0, or what walks reach, with status 1

@@ -9,7 +9,7 @@ use Rattle.image80_text.specs.NameText.{named_text}
 use Rattle.verify80_stores.specs.{declared.stores.Stores.Stores, Boards.is_quiet}
 use Rattle.verify80_follow.specs.{declared.fit.Table.Table, declared.handling.Handler.Handler, FollowText.bounds_lines}
 use Rattle.verify80_follow.specs.{FollowText.live_lines, FollowText.ways_lines, Live.PromiseOfLive, Live.handler_bounds}
-use Rattle.verify80_follow.specs.{Promise.PromiseOf, Reaching.AreFollowed, Reaching.AreListed, Reaching.AreStoresFollowed, Reaching.places_of}
+use Rattle.verify80_follow.specs.{Fitting.AreFit, Fitting.IsFit, Promise.PromiseOf, Reaching.AreFollowed, Reaching.AreListed, Reaching.AreStoresFollowed, Reaching.places_of}
 use Rattle.verify80_follow_search.specs.declared.stop.StopReason.{StopReason}
 use Rattle.verify80_follow_search.specs.declared.stop.StopReason.TheVariants.{FetchOutside, UnusedOpcode, EnablesInterrupts, DirectStore, StackNotSet}
 use Rattle.verify80_follow_search.specs.declared.stop.StopReason.TheVariants.{LeavesStack, UnknownReturn, UnknownJump, UnknownPointer, NotGivenBack}
@@ -54,12 +54,12 @@ reason_words Unfit = codes "UNFIT"
 abbrev pub stopped_line : (at : ℕ) → StopReason → List ℕ
 stopped_line at reason = codes "STOPPED " ++ (word_text at ++ 32 ∷ (reason_words reason ++ 10 ∷ []))
 
--- a table keeps its promise: on every board whose devices, and whose handlers if the program is interrupted, leave the quiet addresses as they are; and what
--- it leaves open is listed by address, at places of the program
+-- a table keeps its promise: on every board whose devices, and whose handlers if the program is interrupted, leave the quiet addresses as they are; each of
+-- its states is covered where it leads; and what it leaves open is listed by address, at places of the program
 abbrev pub KeepsPromise : (interrupted : Bool) → (quiet : List Range) → Located → Table → (is_set : Bool) → Type 0
 KeepsPromise interrupted quiet image table is_set =
     PromiseOf interrupted image (is_quiet image.regions quiet) is_set (places_of table []) table.ways.items table.listed table.bytes
-    × AreListed image (places_of table []) table.listed
+    × (IsFit image interrupted (is_quiet image.regions quiet) is_set table × AreListed image (places_of table []) table.listed)
 
 -- one that is found does
 abbrev pub IsFollowedBy : (interrupted : Bool) → (quiet : List Range) → Located → Followed → Type 0
@@ -76,7 +76,8 @@ KeepsWith quiet image found handlers most =
 abbrev pub KeepsLivePromise : (quiet : List Range) → Located → LiveTables → Type 0
 KeepsLivePromise quiet image found = KeepsWith quiet image found (map (λ handler. handler.at) found.handlers.items) found.most
     × (All (λ handler. KeepsWith quiet image found (handler.at ∷ []) handler.table.bytes) found.handlers.items
-    × AreListed image (places_of found.table found.handlers.items) found.table.listed)
+    × (AreFit image (is_quiet image.regions quiet) (is_quiet image.regions found.writes.items) found.is_set found.table found.handlers.items found.most
+    × AreListed image (places_of found.table found.handlers.items) found.table.listed))
 
 abbrev pub IsFollowedAllBy : (interrupted : Bool) → (handlers : List ℕ) → (quiet : List Range) → Located → FollowedAll → Type 0
 IsFollowedAllBy interrupted handlers quiet image (Alone table is_set) = (handlers ≡ []) × KeepsPromise interrupted quiet image table is_set

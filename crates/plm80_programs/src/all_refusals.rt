@@ -5,6 +5,7 @@ ghost use Rattle.std.specs.List.{flat_map, list_any};
 ghost use Rattle.verify80_flow.specs.declared.refusal.Refusal.TheVariants.{Memory};
 ghost use Rattle.verify80.specs.Looking.{code_of};
 ghost use Rattle.verify80_explain.specs.Conditions.{AreShownIf};
+ghost use Rattle.verify80_explain.specs.Order.{AreShownInOrder};
 ghost use Rattle.verify80_explain.specs.Shows.{IsShown};
 ghost use Rattle.plm80_programs.specs.Explanations.{ShowsAll, ShowsRest, conditional_lines, count_line, further_count};
 ghost use Rattle.plm80_programs.specs.Explanations.{further_count_line, further_lines, is_of, is_same_refusal, limit_line, shown_lines};
@@ -45,6 +46,7 @@ fn text_of_all(
     all: &ShownRefusals,
 ) -> Result<Vec<u8>, AllocError>
     requires shown { All (IsShown (code_of image.now)) all.now.shown.items }
+    requires in_order { AreShownInOrder all.now.shown.items }
     requires further { All (AreShownIf (code_of image.now)) all.now.further.items }
     ensures { IfOk result (λ text. ShowsAll image.now names.now refusal text.items) }
 {

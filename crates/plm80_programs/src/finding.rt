@@ -1,7 +1,7 @@
 //! Tables that follow a program and its handlers: an untrusted search finds them, and a check keeps only those that fit.
 
 ghost use Rattle.std.specs.Prelude.{◌≡◌, ◌≢◌, IfOk, [], map, true};
-ghost use Rattle.plm80_programs.specs.Following.{IsFollowedAllBy, IsFollowedBy, KeepsLivePromise};
+ghost use Rattle.plm80_programs.specs.Following.{IsFollowedAllBy, IsFollowedBy, KeepsLivePromise, KeepsPromise};
 
 use crate::follow::Asked;
 use crate::stops::stop_at;
@@ -180,7 +180,7 @@ fn with_tables(
         is_set,
         most,
     };
-    if keep_promise(alloc, image, &found, asked.quiet)? {
+    if keep_live_promise(alloc, image, &found, asked.quiet)? {
         Ok(FollowedAll::Live(found))
     } else {
         Ok(FollowedAll::Stopped(stop_at(alloc, image, StopReason::Unfit)))
@@ -188,7 +188,7 @@ fn with_tables(
 }
 
 /// Whether tables follow the program of `image` with its handlers.
-fn keep_promise(
+fn keep_live_promise(
     alloc: Global,
     image: &Image,
     found: &LiveTables,
@@ -202,10 +202,10 @@ fn keep_promise(
         is_set: found.is_set,
         most: found.most,
     };
-    Ok(
-        follows_live(alloc, image, &found.table, &found.handlers, run)?
-            && is_listed_in_order(alloc, image, &found.table, &found.handlers)?,
-    )
+    if !follows_live(alloc, image, &found.table, &found.handlers, run)? {
+        return Ok(false);
+    }
+    is_listed_in_order(alloc, image, &found.table, &found.handlers)
 }
 
 /// Searches for a table that follows the program of `image` from its start, and from the places at which handlers begin it anew: with SP anywhere at
@@ -255,9 +255,7 @@ fn table_from(
 {
     match search(alloc, image, quiet, run, anew, budget)? {
         SearchResult::Found(table) => {
-            if follows(alloc, image, &table, quiet, run)?
-                && is_listed_in_order(alloc, image, &table, &[])?
-            {
+            if keeps_promise(alloc, image, &table, quiet, run)? {
                 Ok(Followed::By(table, run.is_set))
             } else {
                 Ok(Followed::Stopped(stop_at(alloc, image, StopReason::Unfit)))
@@ -265,4 +263,20 @@ fn table_from(
         }
         SearchResult::Stopped(stop) => Ok(Followed::Stopped(stop)),
     }
+}
+
+/// Whether a table follows the program of `image` in runs of this kind, and lists in order what it leaves open.
+fn keeps_promise(
+    alloc: Global,
+    image: &Image,
+    table: &Table,
+    quiet: &[Range],
+    run: RunKind,
+) -> Result<bool, AllocError>
+    ensures { IfOk result (λ keeps. keeps ≡ true → KeepsPromise run.interrupted quiet.now image.now table.now run.is_set) }
+{
+    if !follows(alloc, image, table, quiet, run)? {
+        return Ok(false);
+    }
+    is_listed_in_order(alloc, image, table, &[])
 }

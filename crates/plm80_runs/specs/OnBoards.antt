@@ -26,7 +26,7 @@ use Rattle.plm80_runs.specs.declared.board_trace.BoardTraceArguments.{BoardTrace
 use Rattle.plm80_runs.specs.declared.runnable.{Judged.Judged, Judged.TheVariants.Refused, Judged.TheVariants.Runs}
 use Rattle.plm80_runs.specs.declared.runnable.{Runnable.Runnable, Runnable.TheVariants.Accepted, Runnable.TheVariants.Followed}
 use Rattle.verify80.specs.{Looking.code_of, Reached.AreReached}
-use Rattle.verify80_follow.specs.{declared.fit.Table.Table, Promise.KeepsFollowed, Promise.PromiseOf, Reaching.AreFollowed, Reaching.places_of}
+use Rattle.verify80_follow.specs.{declared.fit.Table.Table, Fitting.IsFit, Promise.KeepsFollowed, Promise.PromiseOf, Reaching.AreFollowed, Reaching.places_of}
 use Rattle.verify80_states.specs.QuietBoards.{is_quiet}
 
 -- ---- three files
@@ -58,11 +58,16 @@ IfGiven Answers (Some lines) image publics answer = Answers lines image publics 
 abbrev pub KeepsTable : Located → Table → Type 0
 KeepsTable image table = PromiseOf false image (is_quiet image.regions []) true (places_of table []) table.ways.items table.listed table.bytes
 
--- the verifier refuses the image, and a table follows its program and keeps its promise
+-- a table that follows a program so fits
+abbrev pub FitsTable : Located → Table → Type 0
+FitsTable image table = IsFit image false (is_quiet image.regions []) true table
+
+-- the verifier refuses the image, and a table follows its program, fits, and keeps its promise
 pub record IsFollowed (image : Located) (publics : List Public) (same : Located) (table : Table) : Type 0 where
   pub image_is : same ≡ image
   pub line : List ℕ
   pub refused : IsRefusal image publics line
+  pub fit : FitsTable image table
   pub promise : KeepsTable image table
 
 -- why a program runs: the verifier accepts its image, or a table follows it

@@ -3,7 +3,7 @@
 ghost use Rattle.std.specs.Prelude.{◌≡◌, ◌<◌, All, IfOk, IfSome};
 ghost use Rattle.image80.specs.Image.{memory_of};
 ghost use Rattle.verify80_follow.specs.declared.fit.Table.{Table};
-ghost use Rattle.plm80_runs.specs.OnBoards.{IsJudged, KeepsTable, RunsKeepPromise, first_line, image_of, stack_bytes_of, states_line};
+ghost use Rattle.plm80_runs.specs.OnBoards.{FitsTable, IsJudged, KeepsTable, RunsKeepPromise, first_line, image_of, stack_bytes_of, states_line};
 ghost use Rattle.plm80_runs.specs.declared.runnable.Runnable.TheVariants.{Followed};
 
 use image80::Image;
@@ -104,6 +104,7 @@ pub fn judge_run(alloc: Global, image: Image, names: &Names) -> Result<Judged, A
 /// `AllocError` only if memory runs out.
 fn find_table(alloc: Global, image: &Image) -> Result<Option<Table>, AllocError>
     ensures table { IfOk result (λ found. IfSome found (KeepsTable image.now)) }
+    ensures fit { IfOk result (λ found. IfSome found (FitsTable image.now)) }
     ensures runs { IfOk result (λ found. IfSome found (λ table. RunsKeepPromise (Followed image.now table))) }
 {
     runs_of_followed(image, &image.memory(alloc)?);

@@ -6,7 +6,7 @@ use Rattle.decode80.specs.declared.fetching.Fetched.{Fetched}
 use Rattle.decode80.specs.declared.fetching.FetchFault.{FetchFault}
 use Rattle.decode80.specs.declared.instr.Instr.{Instr}
 use Rattle.decode80.specs.declared.flow.Flow.{Flow}
-use Rattle.decode80.specs.declared.flow.Flow.TheVariants.{Continues, Jumps, JumpsIf, JumpsToHl, Calls, CallsIf, Returns, ReturnsIf, Pushes, Pops, Exchanges, Halts}
+use Rattle.decode80.specs.declared.flow.Flow.TheVariants.{Jumps, JumpsIf, JumpsToHl, Calls, CallsIf, Returns, Halts}
 use Rattle.decode80.specs.Facts.{flow}
 use Rattle.image80.specs.Image.{Located, memory_of}
 use Rattle.verify80.specs.Looking.{declared_targets, is_pchl}
@@ -14,36 +14,22 @@ use Rattle.verify80.specs.LookLaws.{fetch_at}
 
 -- the address behind an instruction, unless it never goes on there
 abbrev pub next_of : Flow → (next : ℕ) → Option ℕ
-next_of Continues next = Some next
 next_of (Jumps _) next = None
-next_of (JumpsIf _ _) next = Some next
 next_of JumpsToHl next = None
-next_of (Calls _) next = Some next
-next_of (CallsIf _ _) next = Some next
 next_of Returns next = None
-next_of (ReturnsIf _) next = Some next
-next_of Pushes next = Some next
-next_of Pops next = Some next
-next_of Exchanges next = Some next
 next_of Halts next = None
+next_of w next = Some next
 
 abbrev pub falls_to : Instr → (next : ℕ) → Option ℕ
 falls_to instr next = next_of (flow instr) next
 
 -- the address that an instruction names to go to
 abbrev pub named_of : Flow → Option ℕ
-named_of Continues = None
 named_of (Jumps to) = Some to
 named_of (JumpsIf _ to) = Some to
-named_of JumpsToHl = None
 named_of (Calls to) = Some to
 named_of (CallsIf _ to) = Some to
-named_of Returns = None
-named_of (ReturnsIf _) = None
-named_of Pushes = None
-named_of Pops = None
-named_of Exchanges = None
-named_of Halts = None
+named_of w = None
 
 abbrev pub target_of : Instr → Option ℕ
 target_of instr = named_of (flow instr)

@@ -14,7 +14,8 @@ use Rattle.std.proofs.lemmas.List.Sorted.{All-permutation, Contains-permutation}
 use Rattle.verify80_flow.specs.declared.refusal.Refusal.{Refusal}
 use Rattle.verify80_flow.specs.Refusal.{refusal_address, refusal_code}
 use Rattle.verify80_explain.specs.declared.reaching.ReachedPoint.{ReachedPoint}
-use Rattle.verify80_explain.specs.Order.{AreSame, refusal_cmp}
+use Rattle.verify80_explain.specs.declared.explaining_all.ShownRefusal.{ShownRefusal}
+use Rattle.verify80_explain.specs.Order.{AreSame, refusal_cmp, shown_cmp}
 use Rattle.verify80_explain.specs.Reaching.{AreRefusalsOf, IsListedIn, IsRefusalAmong}
 
 abbrev pub refused : List ReachedPoint → List Refusal
@@ -95,6 +96,16 @@ same_laws = record {
   symm = λ one other. ties one other ∙ (eq_by_cmp_equiv refusal_total).symm one other ∙ sym (ties other one);
   congr = λ one other third is. ties one third ∙ (eq_by_cmp_equiv refusal_total).congr one other third (sym (ties one other) ∙ is) ∙ sym (ties other third);
 }
+
+-- of refusals that are shown
+abbrev pub is_same_shown : ShownRefusal → ShownRefusal → Bool
+is_same_shown one other = is_same one.refusal other.refusal
+
+pub shown_total : IsTotalOrder shown_cmp
+shown_total = on_total (λ (one : ShownRefusal). one.refusal) refusal_total
+
+pub shown_ties : (one other : ShownRefusal) → is_same_shown one other ≡ eq_by_cmp shown_cmp one other
+shown_ties one other = ties one.refusal other.refusal
 
 -- ---- what a sort and a dedup leave
 

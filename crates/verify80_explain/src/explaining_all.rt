@@ -4,6 +4,8 @@ ghost use Rattle.std.specs.Prelude.{◌≡◌, All, IfOk, IfSome, OnOk};
 ghost use Rattle.verify80.specs.Looking.{code_of};
 ghost use Rattle.verify80_flow.specs.Refusal.{look_refusal as refusal_by_look};
 ghost use Rattle.verify80_explain.specs.Conditions.{AreShownIf};
+ghost use Rattle.verify80_explain.specs.Order.{AreShownInOrder};
+ghost use Rattle.frames80.specs.Code.{Code};
 ghost use Rattle.verify80_walks.specs.Reached.{AreReached, AreWalked};
 ghost use Rattle.verify80_explain.specs.Reaching.{IsRefusedIfWalked, RefusesFor};
 ghost use Rattle.verify80_explain.specs.Shows.{IsShown, Shows};
@@ -79,10 +81,12 @@ pub(crate) struct FaultyPoint {
 pub fn explain_all(alloc: Global, image: &Image, limit: usize) -> Result<ShownRefusals, AllocError>
     ensures shown { IfOk result (λ all. All (IsShown (code_of image.now)) all.shown.items) }
     ensures further { IfOk result (λ all. All (AreShownIf (code_of image.now)) all.further.items) }
+    ensures in_order { IfOk result (λ all. AreShownInOrder all.shown.items) }
 {
     let code = ImageCode::new(alloc, image)?;
     let mut shown = Vec::new(alloc);
     let are_all = show_reached(alloc, &code, limit, &mut shown)?;
+    sort_shown(&mut shown)?;
     let mut further = Vec::new(alloc);
     let answer = show_further(alloc, &code, limit / 2, &shown, &mut further);
     let are_all_further = is_reached_within(answer)?;
@@ -92,6 +96,16 @@ pub fn explain_all(alloc: Global, image: &Image, limit: usize) -> Result<ShownRe
         further,
         are_all_further,
     })
+}
+
+/// Sorts what is shown by address and number, and leaves each refusal once.
+fn sort_shown(shown: &mut Vec<ShownRefusal>) -> Result<(), AllocError>
+    ensures kept { (code : Code) → All (IsShown code) shown.old.items → OnOk result (All (IsShown code) shown.new.items) }
+    ensures in_order { OnOk result (AreShownInOrder shown.new.items) }
+{
+    shown.sort_by_key(|one| Place::of(one.refusal))?;
+    shown.dedup_by_key(|one| Place::of(one.refusal));
+    Ok(())
 }
 
 /// Appends the refusals of the points that walks of a program reach to `shown`, each with a way that

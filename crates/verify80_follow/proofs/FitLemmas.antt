@@ -13,7 +13,7 @@ use Rattle.verify80.specs.{Looking.is_declared, Looking.look_at, Looking.stores_
 use Rattle.verify80.specs.LookLaws.{IsEiAlone, IsPchlUndeclared, LooksAnswerFaultsThatHold, LooksFindWhatIsAdmitted, fetch_at}
 use Rattle.verify80_follow.specs.declared.{fit.Table.Table, followed.FollowedState.FollowedState, followed.Listed.Listed, followed.Way.Way, handling.Handler.Handler}
 use Rattle.verify80_follow.specs.{Follows.IsExecuted, Promise.IsLeftOpenAt, Promise.PromiseOf}
-use Rattle.verify80_follow.specs.{Handling.HandlesAmong, Handling.IsHandled, Reaching.places_of}
+use Rattle.verify80_follow.specs.{Fitting.AreFit, Fitting.IsFit, Handling.HandlesAmong, Handling.IsHandled, Reaching.places_of}
 use Rattle.verify80_follow.specs.Live.{Enable, HandlerBounds, KeepsLive, OnLiveBoard, PromiseOfLive, begins as begins_live}
 use Rattle.verify80_follow.specs.Live.{disturbed as disturbed_live, executed as executed_live, handler_ways, interrupted as interrupted_live}
 use Rattle.verify80_follow.specs.InterruptedBoards.{OnInterruptedBoard, begins as begins_interrupted, disturbed as disturbed_interrupted, executed as executed_interrupted, woken}
@@ -163,3 +163,18 @@ module _ (image : Located) (table : Table) (written quiet : ℕ → Bool) (most 
   pub handled_alone : All (λ h. (at : ℕ) → Contains (h.at ∷ []) at → Among h.table.bytes at) handlers
   handled_alone = λ k d inside at there. let h = get_or handlers k d in
       All-contains (Among h.table.bytes) (h.at ∷ []) at (All-cons (Among h.table.bytes) h.at [] (among_all k d inside h.table.bytes (omega arith)) (All-nil (Among h.table.bytes))) there
+
+-- tables that fit with some quiet addresses fit with more
+abbrev pub fit_of_more : (image : Located) (interrupted : Bool) (quiet other : ℕ → Bool) (is_set : Bool) (table : Table) → ((at : ℕ) → quiet at ≡ true → other at ≡ true) → IsFit image interrupted quiet is_set table → IsFit image interrupted other is_set table
+fit_of_more image interrupted quiet other is_set table more fit = record { marked = fit.marked; within = λ at here. more at (fit.within at here); follows = fit.follows; summaries = fit.summaries; room = fit.room }
+
+pub are_fit_of_more : (image : Located) (quiet other written wider : ℕ → Bool) (is_set : Bool) (table : Table) (handlers : List Handler) (most : ℕ) →
+    ((at : ℕ) → quiet at ≡ true → other at ≡ true) → ((at : ℕ) → written at ≡ true → wider at ≡ true) → AreFit image quiet written is_set table handlers most → AreFit image other wider is_set table handlers most
+are_fit_of_more image quiet other written wider is_set table handlers most more wide fit = record {
+  program = fit_of_more image true quiet other is_set table more fit.program;
+  writes = fit.writes;
+  inside = λ at here. wide at (fit.inside at here);
+  apart = fit.apart;
+  handled = fit.handled;
+  room = fit.room;
+}

@@ -9,7 +9,7 @@ ghost use Rattle.verify80_follow.specs.Follows.{Covers, CoversStack, CoversThen,
 ghost use Rattle.verify80_follow.specs.Follows.{JumpsBy, IsExecuted, IsShownOrListed, JumpsByNumber, LeadsIf, LeadsTo, LeavesHalt};
 ghost use Rattle.verify80_follow.specs.Follows.{ReturnsLeft, ReturnsTo, StateFollows, first_stack, is_call, stack_of};
 ghost use Rattle.verify80_follow.specs.Held.{IsBesideInside, beside_then, nothing_beside};
-ghost use Rattle.verify80_follow.specs.{Promise.PromiseOf, Reaching.places_of};
+ghost use Rattle.verify80_follow.specs.{Fitting.IsFit, Promise.PromiseOf, Reaching.places_of};
 ghost use Rattle.verify80_follow.specs.Stack.{IsStackInside, after_of, bounds_of};
 ghost use Rattle.decode80.specs.{Facts.flow, declared.flow.Flow.TheVariants.JumpsToHl, declared.instr.Instr.TheVariants.Ei};
 ghost use Rattle.verify80.specs.{LookLaws.fetch_at, Looking.declared_targets, Looking.is_declared};
@@ -614,6 +614,7 @@ pub fn follows(
 ) -> Result<bool, AllocError>
     ensures promise { IfOk result (λ follows. follows ≡ true →
         PromiseOf run.interrupted image.now (is_quiet image.now.regions quiet.now) run.is_set (places_of table.now []) table.now.ways.items table.now.listed table.now.bytes) }
+    ensures fit { IfOk result (λ follows. follows ≡ true → IsFit image.now run.interrupted (is_quiet image.now.regions quiet.now) run.is_set table.now) }
 {
     image.regions.stack();
     let code = code_bytes(alloc, image)?;
@@ -635,6 +636,7 @@ fn follows_marked(
     requires quiet { (at : ℕ) → is_marked quiet.now at ≡ true → in_data image.now.regions at ≡ true }
     ensures promise { IfOk result (λ follows. follows ≡ true → PromiseOf run.interrupted image.now (is_marked quiet.now) run.is_set (places_of table.now [])
         table.now.ways.items table.now.listed table.now.bytes) }
+    ensures fit { IfOk result (λ follows. follows ≡ true → IsFit image.now run.interrupted (is_marked quiet.now) run.is_set table.now) }
 {
     followed_programs_keep_the_promise();
     fits(alloc, image, table, code, quiet, run)

@@ -9,7 +9,7 @@ ghost use Rattle.verify80_stores.specs.{DataReach.AreDataEnds, Opening.pointer_s
 ghost use Rattle.verify80_follow.specs.Follows.{Has, stack_of, uses_pointer, entered_stack};
 ghost use Rattle.verify80_follow.specs.Held.{IsBesideInside, count_of, nothing_beside};
 ghost use Rattle.verify80_follow.specs.Handling.{BeginsAnew, GivesBack, Handles, IsHandled, IsReturn, entered_beside};
-ghost use Rattle.verify80_follow.specs.{Live.PromiseOfLive, Live.handler_bounds, Live.handler_ways, Reaching.places_of};
+ghost use Rattle.verify80_follow.specs.{Fitting.AreFit, Live.PromiseOfLive, Live.handler_bounds, Live.handler_ways, Reaching.places_of};
 ghost use Rattle.verify80_follow.specs.Stack.{IsStackInside};
 ghost use Rattle.verify80_follow.specs.Writes.{AreWriteEnds, MayBeWritten};
 
@@ -221,6 +221,8 @@ pub fn follows_live(
     ensures each { IfOk result (λ follows. follows ≡ true → All (λ handler.
         PromiseOfLive image.now (is_quiet image.now.regions run.entry.quiet.now) run.entry.is_set (handler.at ∷ []) (places_of table.now handlers.now)
         table.now.ways.items table.now.listed table.now.bytes (handler_bounds image.now.regions run.entry.writes.now handler.table.bytes handlers.now)) handlers.now) }
+    ensures fit { IfOk result (λ follows. follows ≡ true →
+        AreFit image.now (is_quiet image.now.regions run.entry.quiet.now) (is_quiet image.now.regions run.entry.writes.now) run.entry.is_set table.now handlers.now run.entry.most) }
 {
     image.regions.stack();
     let code = code_bytes(alloc, image)?;
@@ -262,6 +264,8 @@ fn follows_live_marked(
         table.now.ways.items table.now.listed table.now.bytes (record { written = is_marked looked.entry.written.now; bytes = most; ways = handler_ways handlers.now })) }
     ensures each { IfOk result (λ follows. follows ≡ true → All (λ handler. PromiseOfLive image.now (is_marked looked.entry.quiet.now) is_set (handler.at ∷ []) (places_of table.now handlers.now)
         table.now.ways.items table.now.listed table.now.bytes (record { written = is_marked looked.entry.written.now; bytes = handler.table.bytes; ways = handler_ways handlers.now })) handlers.now) }
+    ensures fit { IfOk result (λ follows. follows ≡ true →
+        AreFit image.now (is_marked looked.entry.quiet.now) (is_marked looked.entry.written.now) is_set table.now handlers.now most) }
 {
     live_machines_keep_the_promise();
     let run = RunKind {

@@ -154,7 +154,7 @@ fn with_instructions(
     stores: &[OpenStore],
     reached: &[Option<Fetched>],
 ) -> Result<Vec<OpenStore>, AllocError>
-    ensures { IfOk result (λ open. open.items ≡ map (with_instr reached.now) stores.now) }
+    ensures { IfOk result (λ copies. copies.items ≡ map (with_instr reached.now) stores.now) }
 {
     stores
         .iter()
@@ -164,7 +164,7 @@ fn with_instructions(
 
 /// An open store with the instruction that is reached at its address.
 fn with_instruction(store: OpenStore, reached: &[Option<Fetched>]) -> OpenStore
-    ensures { result ≡ with_instr reached.now store.entry }
+    ensures { result ≡ with_instr reached.now store }
 {
     let instr = entry_at(reached, store.at).map_or(Instr::Nop, |found| found.instr);
     OpenStore { instr, ..store }

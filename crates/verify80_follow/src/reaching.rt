@@ -98,15 +98,21 @@ pub fn is_listed_in_order(
     let places = places_of(alloc, table, handlers)?;
     let reached = followed_instructions(alloc, image, &places)?;
     let stores = addresses_of(alloc, &table.listed.stores)?;
-    Ok(are_in_order(Kind::Store, &stores, &reached)
-        && are_in_order(Kind::Jump, &table.listed.jumps, &reached))
+    if !are_in_order(Kind::Store, &stores, &reached) {
+        return Ok(false);
+    }
+    Ok(are_in_order(Kind::Jump, &table.listed.jumps, &reached))
 }
 
 /// The addresses of open stores.
 fn addresses_of(alloc: Global, stores: &[OpenStore]) -> Result<Vec<u16>, AllocError>
     ensures { IfOk result (λ addresses. addresses.items ≡ map (λ store. store.at) stores.now) }
 {
-    stores.iter().map(|store| store.at).collect(alloc)
+    let mut addresses = Vec::new(alloc);
+    for store in stores {
+        addresses.push(store.at)?;
+    }
+    Ok(addresses)
 }
 
 /// Whether addresses ascend, and an instruction of a kind is reached at each.

@@ -1,11 +1,12 @@
 //! The command line, read by clap.
 
 ghost use Rattle.std.specs.Prelude.{◌≡◌, ◌⊎◌, false, true, None, codes, map, string_bytes, IfOk, IfErr, IfSome, OnOk};
-ghost use Rattle.clap.specs.{Matches.has_subcommand, Simple.HasMatchesOf, Simple.subcommand_of, Simple.subcommand_rows_of, Takes.takes, Values.kind_of};
+ghost use Rattle.clap.specs.{Matches.has_subcommand, Simple.HasMatchesOf, Simple.subcommand_of, Simple.subcommand_rows_of, Values.kind_of};
 ghost use Rattle.plm80_console.specs.Refusals.{IsConflict};
-ghost use Rattle.plm80.specs.{Apart.AreApartIn, CommandLine.plm80_app, Requests.AreArgumentsOf, Requests.IsRequestOf, Requests.command_name, Requests.is_of_words};
+ghost use Rattle.plm80.specs.{Apart.AreApartIn, CommandLine.IsUntaken, CommandLine.plm80_app, Requests.AreArgumentsOf, Requests.IsRequestOf, Requests.command_name, Requests.is_of_words};
 
 use super::program_syntax::{program, shown_error};
+use super::untaken::is_untaken;
 use clap::error::ErrorKind;
 use clap::{ArgMatches, Error};
 use plm80_console::{Console, WHY};
@@ -59,9 +60,9 @@ pub enum Request<'a> {
 #[derive(Drop)]
 pub enum NoRequest {
     /// clap doesn't take its words: they are no command's, or ask for help.
-    Words(Error),
-    /// A file would be written that is read, or written twice; or memory ran out.
-    Files(Error),
+    Untaken(Error),
+    /// clap takes its words, and yet they are refused: a file would be written that is read, or written twice. Or memory ran out.
+    Refused(Error),
 }
 
 /// Reads the words of a command line, as `joined_words` gives them, of which the first is the program's own name: its command, and whether
@@ -71,7 +72,7 @@ pub fn read_arguments<'a, C: Console>(
     words: &'a [String],
 ) -> Result<(Request<'a>, bool), NoRequest>
     ensures request { IfOk result (λ asked. IsRequestOf (subcommand_of plm80_app (map string_bytes words.now)) asked.0) }
-    ensures untaken { IfErr result (λ why. is_of_words why ≡ true → takes plm80_app (map string_bytes words.now) ≡ false) }
+    ensures untaken { IfErr result (λ why. is_of_words why ≡ true → IsUntaken (map string_bytes words.now)) }
 {
     let alloc = console.alloc();
     let matches = match matches_of(alloc, words) {
@@ -82,27 +83,26 @@ pub fn read_arguments<'a, C: Console>(
         Ok(Some(request)) => Ok((request, is_explained(&matches))),
         Ok(None) => {
             let error = refusal(alloc, ErrorKind::MissingSubcommand, "no command");
-            Err(NoRequest::Files(error))
+            Err(NoRequest::Refused(error))
         }
-        Err(error) => Err(NoRequest::Files(error)),
+        Err(error) => Err(NoRequest::Refused(error)),
     }
 }
 
 /// Why these words ask for nothing, with this error of clap: it doesn't take them, unless memory ran out.
 fn untaken(alloc: Global, words: &[String], error: Error) -> NoRequest
-    requires { takes plm80_app (map string_bytes words.now) ≡ true → kind_of error ≡ ErrorKind.OutOfMemory }
-    ensures { is_of_words result ≡ true → takes plm80_app (map string_bytes words.now) ≡ false }
+    ensures { is_of_words result ≡ true → IsUntaken (map string_bytes words.now) }
 {
-    match error.kind() {
-        ErrorKind::OutOfMemory => NoRequest::Files(error),
-        _ => NoRequest::Words(shown_error(alloc, words, error)),
+    match is_untaken(alloc, words) {
+        Ok(true) => NoRequest::Untaken(shown_error(alloc, words, error)),
+        Ok(false) => NoRequest::Refused(error),
+        Err(AllocError) => NoRequest::Refused(Error::from(AllocError)),
     }
 }
 
 /// What clap reads in these words. The error is one of clap.
 fn matches_of(alloc: Global, words: &[String]) -> Result<ArgMatches<'_>, Error>
     ensures matches { IfOk result (HasMatchesOf plm80_app (map string_bytes words.now)) }
-    ensures passes { IfErr result (λ error. takes plm80_app (map string_bytes words.now) ≡ true → kind_of error ≡ ErrorKind.OutOfMemory) }
 {
     program(alloc, "")?.try_get_matches_from(words)
 }

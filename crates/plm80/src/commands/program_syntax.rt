@@ -3,7 +3,7 @@
 ghost use Rattle.std.specs.Prelude.{◌≡◌, find, map, option_map, IfOk};
 ghost use Rattle.std.specs.Str.{bytes_eq};
 ghost use Rattle.clap.specs.Simple.{app_of};
-ghost use Rattle.plm80.specs.CommandLine.{command_named, commands, object_commands, plm80_app, prom_commands, run_commands, verifier_commands};
+ghost use Rattle.plm80.specs.CommandLine.{app_with, command_named, commands, object_commands, plm80_app, prom_commands, run_commands, verifier_commands};
 ghost use Rattle.plm80_console.specs.SyntaxTable.{shape_of_syntax};
 
 use clap::{Command, Error};
@@ -67,7 +67,7 @@ pub(crate) fn prom_commands() -> [Syntax<'static>; 8]
 }
 
 /// All commands, in the order of the help text. `AllocError` only if memory runs out.
-fn commands(alloc: Global) -> Result<Vec<Syntax<'static>>, AllocError>
+pub(crate) fn commands(alloc: Global) -> Result<Vec<Syntax<'static>>, AllocError>
     ensures { IfOk result (λ all. map shape_of_syntax all.items ≡ commands) }
 {
     let mut all = Vec::new(alloc);
@@ -108,6 +108,18 @@ const VERSION: &str = "1.2";
 pub(crate) fn program<'a>(alloc: Global, after: &'a str) -> Result<Command<'a>, AllocError>
     ensures { IfOk result (λ program. app_of program ≡ plm80_app) }
 {
+    let all = commands(alloc)?;
+    program_of(alloc, after, &all)
+}
+
+/// The program with these commands, for clap; the text `after` follows the list of its options. `AllocError` only if memory runs out.
+pub(crate) fn program_of<'a>(
+    alloc: Global,
+    after: &'a str,
+    commands: &[Syntax<'a>],
+) -> Result<Command<'a>, AllocError>
+    ensures { IfOk result (λ program. app_of program ≡ app_with (map shape_of_syntax commands.now)) }
+{
     let mut program = Command::new(alloc, "plm80")
         .version(VERSION)
         .about("Links, locates, verifies and runs 8080 programs from OMF-80 object files")
@@ -115,8 +127,7 @@ pub(crate) fn program<'a>(alloc: Global, after: &'a str) -> Result<Command<'a>, 
         .after_help(after)
         .subcommand_required(true)
         .bin_name("plm80")?;
-    let all = commands(alloc)?;
-    for command in &all {
+    for command in commands {
         program = program.subcommand(command.command(alloc)?.hide(true))?;
     }
     Ok(program)

@@ -18,6 +18,7 @@ returns c =
       are_all_further = all.are_all_further;
       own = own;
       lines = lines;
+      in_order = c.requires.in_order;
       each = c.requires.shown;
       each_further = c.requires.further;
       rest = simp (c.deref-2.ensures.value, c.in_ok-append_limit.ensures, c.in_ok-text.ensures, c.deref.ensures.value) at c.in_ok-own.ensures;

@@ -1,6 +1,6 @@
 use Rattle.plm80_runs.proofs.Names.{IfSome, Located, Option, subst}
 use Rattle.verify80_follow.specs.declared.fit.Table.{Table}
-use Rattle.plm80_runs.specs.OnBoards.{KeepsTable, RunsKeepPromise}
+use Rattle.plm80_runs.specs.OnBoards.{FitsTable, KeepsTable, RunsKeepPromise}
 use Rattle.plm80_runs.specs.declared.runnable.Runnable.TheVariants.{Followed}
 use Rattle.plm80_runs.proofs.runnable.judge_run.Goals as goal
 
@@ -24,6 +24,8 @@ returns-in-Some c =
           no_memory = c.in_ok-line-in-Err.ensures.no_memory;
           line_is = simp (c.in-Err.ensures.handed_back) at c.in_ok-line-in-Err.ensures.line;
         };
+        fit = subst (λ (i : Located). FitsTable i table) c.in-Err.ensures.handed_back
+            (subst (λ (found : Option Table). IfSome found (FitsTable image)) c.in-Some.is c.in_ok-table-in-Err.ensures.fit);
         promise = subst (λ (i : Located). KeepsTable i table) c.in-Err.ensures.handed_back
             (subst (λ (found : Option Table). IfSome found (KeepsTable image)) c.in-Some.is c.in_ok-table-in-Err.ensures.table);
       };

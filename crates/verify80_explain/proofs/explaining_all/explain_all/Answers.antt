@@ -12,6 +12,8 @@ returns c =
     let none = subst (All (IsShown (code_of c.in_ok-code.code))) (sym c.new-shown.ensures.items) (All-nil (IsShown (code_of c.in_ok-code.code))) in
     let no_further = subst (All (AreShownIf (code_of c.in_ok-code.code))) (sym c.new-further.ensures.items) (All-nil (AreShownIf (code_of c.in_ok-code.code))) in
     record {
-      shown = subst (λ (i : Located). All (IsShown (code_of i)) c.show_reached.new.shown.items) c.in_ok-code.ensures (c.show_reached.ensures none);
+      shown = subst (λ (i : Located). All (IsShown (code_of i)) c.sort_shown.new.shown.items) c.in_ok-code.ensures
+          (c.in_ok-sort_shown.ensures.kept (code_of c.in_ok-code.code) (c.show_reached.ensures none));
       further = subst (λ (i : Located). All (AreShownIf (code_of i)) c.show_further-answer.new.further.items) c.in_ok-code.ensures (c.show_further-answer.ensures no_further);
+      in_order = c.in_ok-sort_shown.ensures.in_order;
     }

@@ -2,8 +2,8 @@ use Rattle.std.specs.Prelude.{◌≡◌, ℕ, Bool, true, List, []}
 use Rattle.std.proofs.Common.{subst}
 use Rattle.image80.specs.Image.{Located}
 use Rattle.verify80_states.specs.{Marks.is_marked, QuietBoards.is_quiet}
-use Rattle.verify80_follow.specs.{Promise.PromiseOf, Reaching.places_of}
-use Rattle.verify80_follow.proofs.FitLemmas.{ok_maps, promise_of_more}
+use Rattle.verify80_follow.specs.{Fitting.IsFit, Promise.PromiseOf, Reaching.places_of}
+use Rattle.verify80_follow.proofs.FitLemmas.{fit_of_more, ok_maps, promise_of_more}
 use Rattle.verify80_follow.proofs.fit.follows.Goals as goal
 
 pub returns : goal.returns
@@ -20,4 +20,7 @@ returns c =
           (λ f. f ≡ true → PromiseOf run.interrupted image quiet run.is_set places table.ways.items table.listed table.bytes)
           (λ f promise is. promise_of_more run.interrupted image marked quiet run.is_set places table.ways.items table.listed table.bytes (λ at marked_here. within at (subst (λ (l : List Bool). is_marked l at ≡ true) c.deref-2.ensures.value marked_here)) (promise is))
           c.follows_marked.ensures.promise;
+      fit = ok_maps c.follows_marked.result (λ f. f ≡ true → IsFit image run.interrupted marked run.is_set table) (λ f. f ≡ true → IsFit image run.interrupted quiet run.is_set table)
+          (λ f fit is. fit_of_more image run.interrupted marked quiet run.is_set table (λ at marked_here. within at (subst (λ (l : List Bool). is_marked l at ≡ true) c.deref-2.ensures.value marked_here)) (fit is))
+          c.follows_marked.ensures.fit;
     }

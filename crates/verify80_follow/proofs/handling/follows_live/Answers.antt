@@ -2,8 +2,8 @@ use Rattle.std.specs.Prelude.{◌≡◌, ℕ, Bool, List, [], ◌∷◌, All, ma
 use Rattle.std.proofs.Common.{subst}
 use Rattle.image80.specs.Image.{Located}
 use Rattle.verify80_states.specs.{Marks.is_marked, QuietBoards.is_quiet}
-use Rattle.verify80_follow.specs.{Live.PromiseOfLive, Live.handler_bounds, Live.handler_ways, Reaching.places_of}
-use Rattle.verify80_follow.proofs.{FitLemmas.live_of_more, FitLemmas.ok_maps, HeldLemmas.all_of}
+use Rattle.verify80_follow.specs.{Fitting.AreFit, Live.PromiseOfLive, Live.handler_bounds, Live.handler_ways, Reaching.places_of}
+use Rattle.verify80_follow.proofs.{FitLemmas.are_fit_of_more, FitLemmas.live_of_more, FitLemmas.ok_maps, HeldLemmas.all_of}
 use Rattle.verify80_follow.proofs.handling.follows_live.Goals as goal
 
 pub returns : goal.returns
@@ -31,4 +31,10 @@ returns c =
           (λ f promise is. more addresses run.most (promise is)) c.follows_live_marked.ensures.promise;
       each = ok_maps c.follows_live_marked.result (λ f. f ≡ true → All (λ h. Kept (h.at ∷ []) h.table.bytes) handlers) (λ f. f ≡ true → All (λ h. Keeps (h.at ∷ []) h.table.bytes) handlers)
           (λ f each is. all_of (λ h. Kept (h.at ∷ []) h.table.bytes) (λ h. Keeps (h.at ∷ []) h.table.bytes) handlers (λ h promise. more (h.at ∷ []) h.table.bytes promise) (each is)) c.follows_live_marked.ensures.each;
+      fit = ok_maps c.follows_live_marked.result (λ f. f ≡ true → AreFit image marked written run.is_set table handlers run.most)
+          (λ f. f ≡ true → AreFit image quiet (is_quiet image.regions run.writes.now) run.is_set table handlers run.most)
+          (λ f fit is. are_fit_of_more image marked quiet written (is_quiet image.regions run.writes.now) run.is_set table handlers run.most
+          (λ at marked_here. within at (subst (λ (l : List Bool). is_marked l at ≡ true) c.deref-2.ensures.value marked_here))
+          (λ at marked_here. inside at (subst (λ (l : List Bool). is_marked l at ≡ true) c.deref-3.ensures.value marked_here)) (fit is))
+          c.follows_live_marked.ensures.fit;
     }

@@ -3,6 +3,7 @@ use Rattle.std.proofs.Common.{arith, get_or, refl, subst}
 use Rattle.verify80_states.specs.Marks.{is_marked}
 use Rattle.verify80_follow.specs.declared.{calls.Summary.Summary, handling.Handler.Handler}
 use Rattle.verify80_follow.specs.{Follows.places_among, Handling.HandlesAmong, Handling.IsHandled, Reaching.places_of}
+use Rattle.verify80_follow.specs.{Fitting.AreFit}
 use Rattle.verify80_follow.specs.Live.{HandlerBounds, PromiseOfLive, handler_ways}
 use Rattle.verify80_follow.proofs.{FitLemmas.each_handled, FitLemmas.handled_alone, FitLemmas.ok_maps, PlaceLemmas.program_placed}
 use Rattle.verify80_follow.proofs.handling.follows_live_marked.Goals as goal
@@ -36,5 +37,15 @@ returns c =
       each = ok_maps c.are_all_handled.result (λ f. f ≡ true → Handled) (λ f. f ≡ true → All (λ h. Kept (h.at ∷ []) h.table.bytes) handlers)
           (λ f handled is k d inside. kept ((get_or handlers k d).at ∷ []) (get_or handlers k d).table.bytes (handled_alone image table written quiet most handlers (handled is) k d inside)
           (let few = (handled is k d inside).few in omega (arith, few, room)))
+          c.are_all_handled.ensures;
+      fit = ok_maps c.are_all_handled.result (λ f. f ≡ true → Handled) (λ f. f ≡ true → AreFit image quiet written c.args.is_set table handlers most)
+          (λ f handled is. record {
+            program = record { marked = quiet; within = λ at here. here; follows = main.0; summaries = main.1.0; room = main.1.1 };
+            writes = written;
+            inside = λ at here. here;
+            apart = c.if-not-are_apart.ensures refl;
+            handled = handled is;
+            room = room;
+          })
           c.are_all_handled.ensures;
     }

@@ -1,18 +1,11 @@
-use Rattle.std.proofs.Common.{◌∙◌, ap, arith, map}
-use Rattle.std.proofs.lemmas.List.{take_all}
+use Rattle.std.specs.Prelude.{◌≡◌, IfOk, List, map}
+use Rattle.std.proofs.Common.{◌∙◌, ap, subst}
+use Rattle.clap.specs.Simple.{Shape, app_of}
 use Rattle.plm80_console.specs.SyntaxTable.{shape_of_syntax}
-use Rattle.plm80.proofs.ProgramLemmas.{next, program_with}
+use Rattle.plm80.specs.CommandLine.{app_with}
 use Rattle.plm80.proofs.commands.program_syntax.program.Goals as goal
-
-pub loop-command-preserved : goal.loop-command-preserved
-loop-command-preserved c =
-    next c.loop-command.program c.in_ok-program-2.program c.in_ok-command.field-0 c.hide.result c.deref-command-items.result.now
-    c.loop-command.command-index _ c.in_ok-program-2.ensures c.hide.ensures c.loop-command.invariant c.loop-command-test.true
-    c.in_ok-command.ensures
 
 pub returns : goal.returns
 returns c =
-    c.loop-command.invariant ∙ (ap (λ all. program_with (map shape_of_syntax all))
-    (take_all c.loop-command.command-index c.deref-command-items.result.now (omega (arith, c.loop-command-test.false))
-    ∙ c.deref-command-items.ensures.value)
-    ∙ ap program_with c.in_ok-all.ensures)
+    subst (λ (shapes : List Shape). IfOk c.program_of.result (λ program. app_of program ≡ app_with shapes))
+    (ap (map shape_of_syntax) c.deref.ensures.value ∙ c.in_ok-all.ensures) c.program_of.ensures
