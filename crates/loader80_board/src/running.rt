@@ -36,12 +36,12 @@ pub fn transcribe_on_board(
     requires { DevicesAreData board.now image.now.regions }
     ensures { IfOk result (λ transcript. IsRunTranscript board.now image.now stack_bytes limits transcript.ended (string_bytes transcript.text)) }
 {
-    let run = run_on_board(alloc, image, board, limits.steps, limits.outputs)?;
+    let ran = run_on_board(alloc, image, board, limits.steps, limits.outputs)?;
     let ended = BoardEnded {
-        end: run.end,
-        steps: run.steps,
-        at: run.cpu.pc(),
+        end: ran.end,
+        steps: ran.steps,
+        at: ran.cpu.pc(),
     };
-    let text = board_transcript_text(alloc, stack_bytes, &run.outputs, ended)?;
+    let text = board_transcript_text(alloc, stack_bytes, &ran.outputs, ended)?;
     Ok(BoardTranscript { ended, text })
 }

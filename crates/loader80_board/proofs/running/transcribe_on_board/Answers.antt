@@ -6,8 +6,10 @@ use Rattle.loader80_board.proofs.running.transcribe_on_board.Goals as goal
 
 pub returns : goal.returns
 returns c =
-    let made = c.in_ok-run.ensures in
+    let ran = c.in_ok-ran.ran in
+    let is = c.in_ok-ran.ensures in
     record {
-      run = record { last = made.last; run = made.is; at = c.pc.ensures ∙ ap (λ (cpu : Cpu). cpu.pc) made.cpu };
-      spells = c.in_ok-text.ensures ∙ ap (λ (outputs : List Output). board_transcript c.args.stack_bytes outputs _ _ _) (c.deref.ensures.value ∙ made.outputs);
+      run = record { last = is.last; run = is.is; at = c.pc.ensures ∙ ap (λ (cpu : Cpu). cpu.pc) is.cpu };
+      spells = c.in_ok-text.ensures
+          ∙ ap (λ (outputs : List Output). board_transcript c.args.stack_bytes outputs ran.end c.pc.result ran.steps) (c.deref.ensures.value ∙ is.outputs);
     }
