@@ -44,8 +44,8 @@ or_true false = refl
 device_among : (before : List Line) (line : Line) (after : List Line) (address : ℕ) → gives_device line address ≡ true
     → in_device (before ++ line ∷ after) address ≡ true
 device_among [] line after address is = ap (λ (b : Bool). b || in_device after address) is
-device_among (other ∷ before) line after address is =
-    ap (λ (b : Bool). gives_device other address || b) (device_among before line after address is) ∙ or_true (gives_device other address)
+device_among (first ∷ before) line after address is =
+    ap (λ (b : Bool). gives_device first address || b) (device_among before line after address is) ∙ or_true (gives_device first address)
 
 -- such a board has no answer
 misplaced_or_data : (lines : List Line) (regions : Areas) (number : ℕ) → IsMisplaced lines regions number → DevicesAreData lines regions → ⊥
@@ -116,14 +116,14 @@ module _ {paths : BoardFiles} {old between : Journal} {board : List Line} {image
   pub device_blamed : ((text : List ℕ) (areas others : Areas) → SpellsRegions text areas → SpellsRegions text others → areas ≡ others)
       → (number : ℕ) → IsMisplaced board image.regions number → new ≡ and_blamed between
       → GivesUp (AnswersRunOnBoard Part paths) (board_program_paths paths) old new
-  device_blamed one number misplaced is =
+  device_blamed one_reading number misplaced is =
       let Answers = IfGiven (AnswersAmongDevices Part) (Some board) in
       let asked = asks_names paths.program in
       let none : IsMisplaced board image.regions number → (answer : AnswerValue)
       → AnswersProgram Answers asked (program_files read.program new) answer → ⊥ =
       λ at answer answers.
       misplaced_or_data board image.regions number at
-      (subst (λ (regions : Areas). DevicesAreData board regions) (same_regions read.program new Answers one answer answers) answers.answers.devices) in
+      (subst (λ (regions : Areas). DevicesAreData board regions) (same_regions read.program new Answers one_reading answer answers) answers.answers.devices) in
       (gives_on_board (Some paths.board) (λ given. AnswersProgram (IfGiven (AnswersAmongDevices Part) given) asked) (program_paths paths.program)
       old read.between new (Some board) read.is_board {E = Unit {0}} (Err tt) tt
       (more_given_up_or_blamed read.program new Answers (AnswersProgram Answers asked) (λ files answer answers. answers) read.between refl
