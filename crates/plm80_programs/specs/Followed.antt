@@ -24,7 +24,7 @@ pub record IsFollowedCode (image : Located) (code : FollowedCode) : Type 0 where
   pub is_set : Bool
   pub promise : PromiseOf false image (is_quiet image.regions []) is_set (places_of code.table []) code.table.ways.items
       code.table.listed code.table.bytes
-  pub fit : IsFit image false (is_quiet image.regions []) is_set code.table
+  pub fit : IsFit image false (is_quiet image.regions []) is_set code.table []
   pub reached : AreFollowed image (places_of code.table []) code.reached.items
 
 -- what is printed of an image that is refused: the code that is followed, with status 0, or what walks reach, with status 1

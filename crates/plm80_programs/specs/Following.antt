@@ -59,7 +59,7 @@ stopped_line at reason = codes "STOPPED " ++ (word_text at ++ 32 ∷ (reason_wor
 abbrev pub KeepsPromise : (interrupted : Bool) → (quiet : List Range) → Located → Table → (is_set : Bool) → Type 0
 KeepsPromise interrupted quiet image table is_set =
     PromiseOf interrupted image (is_quiet image.regions quiet) is_set (places_of table []) table.ways.items table.listed table.bytes
-    × (IsFit image interrupted (is_quiet image.regions quiet) is_set table × AreListed image (places_of table []) table.listed)
+    × (IsFit image interrupted (is_quiet image.regions quiet) is_set table [] × AreListed image (places_of table []) table.listed)
 
 -- one that is found does
 abbrev pub IsFollowedBy : (interrupted : Bool) → (quiet : List Range) → Located → Followed → Type 0

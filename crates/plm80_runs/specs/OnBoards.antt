@@ -26,7 +26,7 @@ use Rattle.plm80_runs.specs.declared.board_trace.BoardTraceArguments.{BoardTrace
 use Rattle.plm80_runs.specs.declared.runnable.{Judged.Judged, Judged.TheVariants.Refused, Judged.TheVariants.Runs}
 use Rattle.plm80_runs.specs.declared.runnable.{Runnable.Runnable, Runnable.TheVariants.Accepted, Runnable.TheVariants.Followed}
 use Rattle.verify80.specs.{Looking.code_of, Reached.AreReached}
-use Rattle.verify80_follow.specs.{declared.fit.Table.Table, Fitting.IsFit, Promise.KeepsFollowed, Promise.PromiseOf, Reaching.AreFollowed, Reaching.places_of}
+use Rattle.verify80_follow.specs.{declared.fit.Table.Table, Fitting.IsFit, Follows.ways_of, Promise.KeepsFollowed, Promise.PromiseOf, Reaching.AreFollowed, Reaching.places_of}
 use Rattle.verify80_states.specs.QuietBoards.{is_quiet}
 
 -- ---- three files
@@ -60,7 +60,7 @@ KeepsTable image table = PromiseOf false image (is_quiet image.regions []) true 
 
 -- a table that follows a program so fits
 abbrev pub FitsTable : Located → Table → Type 0
-FitsTable image table = IsFit image false (is_quiet image.regions []) true table
+FitsTable image table = IsFit image false (is_quiet image.regions []) true table []
 
 -- the verifier refuses the image, and a table follows its program, fits, and keeps its promise
 pub record IsFollowed (image : Located) (publics : List Public) (same : Located) (table : Table) : Type 0 where
@@ -98,7 +98,7 @@ pub record StandsFollowed (image : Located) (table : Table) (s : BoardState) : T
   pub world : World
   pub same : world.machine ≡ s.machine
   pub stands : Contains (places_of table []) s.machine.cpu.pc
-  pub keeps : KeepsFollowed image false table.bytes table.ways.items table.listed world
+  pub keeps : KeepsFollowed image false table.bytes (ways_of table.ways.items (places_of table [])) table.listed world
 
 -- what is promised of a state of a program's run
 abbrev pub KeepsPromise : Runnable → BoardState → Type 0

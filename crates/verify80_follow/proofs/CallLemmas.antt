@@ -37,6 +37,7 @@ use Rattle.verify80_follow.proofs.FollowLemmas.{disturbs as disturbs_table, ente
 use Rattle.verify80_follow.proofs.FollowLemmas.{keeps as keeps_table, keeps_by, nobody, one_of, same_some, stays_inside, touches_stack, wakes_found}
 use Rattle.verify80_follow.proofs.GuardLemmas.{Touches, at_count}
 use Rattle.verify80_follow.proofs.PartLemmas.{byte_kept, into_back, into_bytes, into_stack, into_whole, off_part, off_stack, part_below, part_inside, regions_below, two_above}
+use Rattle.verify80_follow.specs.Follows.{Ways, ways_of}
 use Rattle.verify80_follow.proofs.StackLemmas.{next_pointer, on_stack as on_part, pointer_below, pointer_is, range_high}
 
 -- a call that is taken, and a return
@@ -145,8 +146,9 @@ nothing_but b e back count m holds = record { psw = none Psw; bc = none StackBc;
   none : (pair : StackPair) → HoldsPairHeld b e pair no_pair count m
   none pair = record { in_place = λ is. cc; saved = tt }
 
-module _ (laws : Laws) (grounds : (regions : Areas) → AreRegions regions → Ground regions) (image : Located) (interrupted : Bool) (quiet : ℕ → Bool) (is_set : Bool) (ways : List Way) (listed : Listed) (table : List FollowedState) (bytes : ℕ)
-    (rules : AreRegions image.regions) (quiet_data : (at : ℕ) → quiet at ≡ true → in_data image.regions at ≡ true) (fits : Follows image interrupted quiet is_set ways listed table bytes) (few : bytes ≤ image.regions.stack.length) where
+module _ (laws : Laws) (grounds : (regions : Areas) → AreRegions regions → Ground regions) (image : Located) (interrupted : Bool) (quiet : ℕ → Bool) (is_set : Bool) (ways : Ways) (listed : Listed) (table : List FollowedState) (bytes : ℕ)
+    (rules : AreRegions image.regions) (quiet_data : (at : ℕ) → quiet at ≡ true → in_data image.regions at ≡ true) (fits : Follows image interrupted quiet is_set ways listed table bytes) (few : bytes ≤ image.regions.stack.length)
+    (all_placed : (at : ℕ) → Contains (places_among table fits.summaries) at → Contains ways.places at) where
   abbrev ground : Ground image.regions
   ground = grounds image.regions rules
 
@@ -238,7 +240,7 @@ module _ (laws : Laws) (grounds : (regions : Areas) → AreRegions regions → G
     pub base : l.base ≡ outer.base + length stack
     pub stands : HoldsStack (bounds_of (part outer.base)) stack (pointer_at (bounds_of (part outer.base)) (length stack)) memory
     pub held : HoldsSaved (bounds_of (part outer.base)) memory (outer.entered.back / 256) (outer.entered.back % 256) (length stack) back
-    pub behind : IsBehindCall image l.entered.back
+    pub behind : IsBehindCall image ways.places l.entered.back
 
   abbrev pub Chain : List Level → Level → List ℕ → Type 0
   Chain [] l memory = l.inner ≡ false
@@ -457,7 +459,7 @@ module _ (laws : Laws) (grounds : (regions : Areas) → AreRegions regions → G
         base = refl;
         stands = record { pointer = refl; within = stack_here.0.within; each = subst (λ a. HoldsFrom m.memory a steps.stack) stack_here.0.pointer stack_here.0.each };
         held = subst (λ (o : Option (List ByteSpan)). HoldsSaved (bounds_of (part l.base)) m.memory (l.entered.back / 256) (l.entered.back % 256) (count_of o) k.state.beside.back) steps.is k.held.back;
-        behind = record { at = k.state.at; found = steps.stands.found; fetched = steps.stands.executed.fetched; calls = calls_it (flow steps.stands.found.instr) p.at steps.calls; next = refl };
+        behind = record { at = k.state.at; placed = all_placed k.state.at (one_of (λ (s : FollowedState). Contains (places_among table fits.summaries) s.at) l.table k.place k.state fit.placed k.there); found = steps.stands.found; fetched = steps.stands.executed.fetched; calls = calls_it (flow steps.stands.found.instr) p.at steps.calls; next = refl };
       }
 
       steps_in : (rest : List Level) → Chain rest l m.memory → (v : World) (by : Executes image.regions (IsLeftOpenAt listed) w v) → is_taken (flow steps.stands.found.instr) m.cpu.registers.flags ≡ true →
@@ -540,7 +542,7 @@ module _ (laws : Laws) (grounds : (regions : Areas) → AreRegions regions → G
       module _ (outer : Level) (rest : List Level) (x : Waits outer l m.memory) (outer_fit : IsFit outer) (chain : Chain rest outer m.memory) where
         keeps_return : KeepsFollowed (part l.base) interrupted l.most ways listed w
         keeps_return = keeps_by laws (part l.base) interrupted l.entered quiet is_set ways listed l.table l.most (rules_of l.base) (ground_of l.base) quiet_data fits.code fits.are_code (few_at l fit) set enabled w k back.stands
-            (λ taken. inl (subst (λ a. IsBehindCall (part l.base) a) (sym back_is) (record { at = x.behind.at; found = x.behind.found; fetched = x.behind.fetched; calls = x.behind.calls; next = x.behind.next })))
+            (λ taken. inl (subst (λ a. IsBehindCall (part l.base) ways.places a) (sym back_is) (record { at = x.behind.at; placed = x.behind.placed; found = x.behind.found; fetched = x.behind.fetched; calls = x.behind.calls; next = x.behind.next })))
             (λ is none. absurd (no_pchl (flow back.stands.found.instr) back.stands.found.instr refl (return_kind (flow back.stands.found.instr) back.returns) is))
             return_touches
 
@@ -634,7 +636,7 @@ module _ (laws : Laws) (grounds : (regions : Areas) → AreRegions regions → G
     }
       where
         whole_way : {to : ℕ} → IsWay (part l.base) ways m.cpu.pc to → IsWay image ways m.cpu.pc to
-        whole_way (inl it) = inl (record { at = it.at; found = it.found; fetched = it.fetched; calls = it.calls; next = it.next })
+        whole_way (inl it) = inl (record { at = it.at; placed = it.placed; found = it.found; fetched = it.fetched; calls = it.calls; next = it.next })
         whole_way (inr it) = inr it
 
     -- a HLT is left
@@ -727,14 +729,14 @@ module _ (laws : Laws) (grounds : (regions : Areas) → AreRegions regions → G
   abbrev KnowsSome : (set : Bool) → World → Type 0
   KnowsSome set w = (enabled : Bool) × Knows set enabled w
 
-  pub followed_keeps : interrupted ≡ false → PromiseOfFollowed image quiet is_set (places_among table fits.summaries) ways listed bytes
+  pub followed_keeps : interrupted ≡ false → PromiseOfFollowed image quiet is_set ways.places ways.listed listed bytes
   followed_keeps off start pc whole code held top w set on =
-      invariant_is_kept image quiet (IsLeftOpenAt listed) start is_set KnowsSome (λ v. Contains (places_among table fits.summaries) v.machine.cpu.pc × KeepsFollowed image false bytes ways listed v)
+      invariant_is_kept image quiet (IsLeftOpenAt listed) start is_set KnowsSome (λ v. Contains ways.places v.machine.cpu.pc × KeepsFollowed image false bytes ways listed v)
       (record {
         begun = (false, begun start pc whole code held top);
         disturbs = λ s v u x by still. (x.0, disturbs s x.0 v u x.1 by still);
         executes = λ s v u x by. (enabled_after by.found.instr x.0, executes s x.0 v u x.1 by);
-        keeps = λ s v x. (stands s x.0 v x.1, subst (λ (b : Bool). KeepsFollowed image b bytes ways listed v) off (keeps s x.0 v x.1));
+        keeps = λ s v x. (all_placed v.machine.cpu.pc (stands s x.0 v x.1), subst (λ (b : Bool). KeepsFollowed image b bytes ways listed v) off (keeps s x.0 v x.1));
       }) w set on
 
   -- one that is
@@ -745,11 +747,11 @@ module _ (laws : Laws) (grounds : (regions : Areas) → AreRegions regions → G
     knows set enabled w (executed was _ may _ u _ before by is after) = subst (λ (b : Bool). Knows set b w) (sym after) (subst (λ (b : Bool). Knows b (enabled_after by.found.instr may) w) (sym is) (executes was may u w (knows was may u before) by))
     knows set enabled w (woken _ _ u _ before may by) = wakes set enabled u w (knows set enabled u before) on may by
 
-  pub interrupted_keeps : interrupted ≡ true → PromiseOfInterrupted image quiet is_set (places_among table fits.summaries) ways listed bytes
+  pub interrupted_keeps : interrupted ≡ true → PromiseOfInterrupted image quiet is_set ways.places ways.listed listed bytes
   interrupted_keeps on start pc whole code held top w set enabled board =
       let x = knows on start pc whole code held top set enabled w board in
-      (stands set enabled w x, (subst (λ (b : Bool). KeepsFollowed image b bytes ways listed w) on (keeps set enabled w x), λ may. ready set enabled w x on may))
+      (all_placed w.machine.cpu.pc (stands set enabled w x), (subst (λ (b : Bool). KeepsFollowed image b bytes ways listed w) on (keeps set enabled w x), λ may. ready set enabled w x on may))
 
 pub promise : Laws → ((regions : Areas) → AreRegions regions → Ground regions) → FollowedProgramsKeepThePromise
-promise laws grounds false image quiet is_set ways listed table bytes rules quiet_data fits few = followed_keeps laws grounds image false quiet is_set ways listed table bytes rules quiet_data fits few refl
-promise laws grounds true image quiet is_set ways listed table bytes rules quiet_data fits few = interrupted_keeps laws grounds image true quiet is_set ways listed table bytes rules quiet_data fits few refl
+promise laws grounds false image quiet is_set places ways listed table bytes rules quiet_data fits all_placed few = followed_keeps laws grounds image false quiet is_set (ways_of ways places) listed table bytes rules quiet_data fits few all_placed refl
+promise laws grounds true image quiet is_set places ways listed table bytes rules quiet_data fits all_placed few = interrupted_keeps laws grounds image true quiet is_set (ways_of ways places) listed table bytes rules quiet_data fits few all_placed refl

@@ -17,6 +17,7 @@ use Rattle.verify80_follow.specs.{Fitting.AreFit, Fitting.IsFit, Handling.Handle
 use Rattle.verify80_follow.specs.Live.{Enable, HandlerBounds, KeepsLive, OnLiveBoard, PromiseOfLive, begins as begins_live}
 use Rattle.verify80_follow.specs.Live.{disturbed as disturbed_live, executed as executed_live, handler_ways, interrupted as interrupted_live}
 use Rattle.verify80_follow.specs.InterruptedBoards.{OnInterruptedBoard, begins as begins_interrupted, disturbed as disturbed_interrupted, executed as executed_interrupted, woken}
+use Rattle.verify80_follow.specs.Follows.{ways_of}
 use Rattle.verify80_follow.proofs.{FollowLemmas.is_pchl, PlaceLemmas.handler_placed}
 
 -- what a value says, if there is one
@@ -108,7 +109,7 @@ pub live_of_more : (image : Located) (quiet more : ℕ → Bool) (is_set : Bool)
 live_of_more image quiet more is_set handlers places ways listed main inner written inside wider promise start pc whole code holds top w set flag under on =
     let kept = promise start pc whole code holds top w set flag under (quieter_live image.regions quiet more handlers (IsLeftOpenAt listed) start is_set inside set flag under w on) in
     (kept.0, keeps_wider under kept.1) where
-      keeps_wider : (under : Option World) → KeepsLive image handlers main inner ways listed flag under w → KeepsLive image handlers main (record inner { written = written }) ways listed flag under w
+      keeps_wider : (under : Option World) → KeepsLive image handlers main inner (ways_of ways places) listed flag under w → KeepsLive image handlers main (record inner { written = written }) (ways_of ways places) listed flag under w
       keeps_wider None keeps = record { keeps = keeps.keeps; pushes = keeps.pushes }
       keeps_wider (Some u) keeps = record {
         found = keeps.found;
@@ -136,7 +137,7 @@ ways_among (h ∷ hs) zero d way inside there = Contains-append_left h.table.way
 ways_among (h ∷ hs) (suc k) d way inside there = Contains-append_right h.table.ways.items (handler_ways hs) way (ways_among hs k d way (omega (arith, inside)) there)
 
 -- each handler is followed, with its ways and places among those of all
-module _ (image : Located) (table : Table) (written quiet : ℕ → Bool) (most : ℕ) (handlers : List Handler) (each : All (IsHandled image table.states.items written quiet table.listed most) handlers) where
+module _ (image : Located) (table : Table) (written quiet : ℕ → Bool) (most : ℕ) (handlers : List Handler) (each : All (IsHandled image table.states.items written quiet (places_of table handlers) table.listed most) handlers) where
   abbrev Among : (bytes at : ℕ) → Type 0
   Among bytes at = HandlesAmong image table.states.items written quiet (handler_ways handlers) (places_of table handlers) table.listed bytes at
 
@@ -165,13 +166,13 @@ module _ (image : Located) (table : Table) (written quiet : ℕ → Bool) (most 
       All-contains (Among h.table.bytes) (h.at ∷ []) at (All-cons (Among h.table.bytes) h.at [] (among_all k d inside h.table.bytes (omega arith)) (All-nil (Among h.table.bytes))) there
 
 -- tables that fit with some quiet addresses fit with more
-abbrev pub fit_of_more : (image : Located) (interrupted : Bool) (quiet other : ℕ → Bool) (is_set : Bool) (table : Table) → ((at : ℕ) → quiet at ≡ true → other at ≡ true) → IsFit image interrupted quiet is_set table → IsFit image interrupted other is_set table
-fit_of_more image interrupted quiet other is_set table more fit = record { marked = fit.marked; within = λ at here. more at (fit.within at here); follows = fit.follows; summaries = fit.summaries; room = fit.room }
+abbrev pub fit_of_more : (image : Located) (interrupted : Bool) (quiet other : ℕ → Bool) (is_set : Bool) (table : Table) (handlers : List Handler) → ((at : ℕ) → quiet at ≡ true → other at ≡ true) → IsFit image interrupted quiet is_set table handlers → IsFit image interrupted other is_set table handlers
+fit_of_more image interrupted quiet other is_set table handlers more fit = record { marked = fit.marked; within = λ at here. more at (fit.within at here); follows = fit.follows; summaries = fit.summaries; room = fit.room }
 
 pub are_fit_of_more : (image : Located) (quiet other written wider : ℕ → Bool) (is_set : Bool) (table : Table) (handlers : List Handler) (most : ℕ) →
     ((at : ℕ) → quiet at ≡ true → other at ≡ true) → ((at : ℕ) → written at ≡ true → wider at ≡ true) → AreFit image quiet written is_set table handlers most → AreFit image other wider is_set table handlers most
 are_fit_of_more image quiet other written wider is_set table handlers most more wide fit = record {
-  program = fit_of_more image true quiet other is_set table more fit.program;
+  program = fit_of_more image true quiet other is_set table handlers more fit.program;
   writes = fit.writes;
   inside = λ at here. wide at (fit.inside at here);
   apart = fit.apart;

@@ -42,6 +42,7 @@ use Rattle.verify80_follow.specs.Promise.{GoesToListed, IsLeftOpenAt, IsOnStack,
 use Rattle.verify80_follow.proofs.{GroundLemmas.Ground, FetchLemmas.anywhere_of, FetchLemmas.fetched_here, FetchLemmas.inside_of, StackSteps.stack_holds}
 use Rattle.verify80_follow.proofs.GuardLemmas.{Touches, all_of_list, passes_guard, touched}
 use Rattle.verify80_follow.proofs.StackLemmas.{any_within, byte_at, moved_holds, on_stack, pointer_is, stays_from}
+use Rattle.verify80_follow.specs.Follows.{Ways}
 use Rattle.verify80_follow.proofs.PointLemmas.{Points, not_outside, points_by, within_outer}
 
 -- small things
@@ -274,7 +275,7 @@ pub record Laws : Type 0 where
   pub facts : InstructionsKeepToFacts
   pub round : StatusWordRoundTrip
 
-module _ (laws : Laws) (image : Located) (interrupted : Bool) (entered : Entry) (quiet : ℕ → Bool) (is_set : Bool) (ways : List Way) (listed : Listed) (table : List FollowedState) (bytes : ℕ) (rules : AreRegions image.regions) (ground : Ground image.regions)
+module _ (laws : Laws) (image : Located) (interrupted : Bool) (entered : Entry) (quiet : ℕ → Bool) (is_set : Bool) (ways : Ways) (listed : Listed) (table : List FollowedState) (bytes : ℕ) (rules : AreRegions image.regions) (ground : Ground image.regions)
     (quiet_data : (at : ℕ) → quiet at ≡ true → in_data image.regions at ≡ true) (bytes_of_code : List (Option ℕ)) (are_code : AreCodeBytes image bytes_of_code) (few : bytes ≤ image.regions.stack.length) where
   abbrev Knows : (set enabled : Bool) → World → Type 0
   Knows set enabled w = KnowsWorld image interrupted entered table set enabled w

@@ -29,7 +29,7 @@ use Rattle.verify80_follow.specs.declared.{followed.FollowedState.FollowedState,
 use Rattle.verify80_follow.specs.InterruptedBoards.{Wakes, enabled_after, with_pc}
 use Rattle.verify80_follow.specs.Stack.{bounds_of, pointer_at}
 use Rattle.verify80_follow.specs.Held.{Entry, HoldsBeside, HoldsPairHeld, HoldsSaved, count_of, nothing_beside}
-use Rattle.verify80_follow.specs.Follows.{Follows, IsWay, StateFollows, StateStands, places_among, stack_of, uses_pointer, entered_stack}
+use Rattle.verify80_follow.specs.Follows.{Follows, IsWay, StateFollows, StateStands, places_among, stack_of, uses_pointer, entered_stack, ways_of}
 use Rattle.verify80_follow.specs.Handling.{BeginsAnew, EndsAt, GivesBack, HandlerTable, Handles, HandlesAmong, IsReturn, entered_beside, entered_pair, on_stack}
 use Rattle.verify80_follow.specs.Promise.{GoesToListed, IsLeftOpenAt, IsOnStack, IsReady, KeepsFollowed, KnowsWorld}
 use Rattle.verify80_follow.specs.Live.{Enable, HandlerBounds, IsHaltedBefore, KeepsHandler, LiesBelow, LiveMachinesKeepThePromise, OnLiveBoard, PromiseOfLive, Takes, begins, disturbed}
@@ -126,7 +126,7 @@ fetched_small regions rules memory at found is =
     small_in regions.code at (front_of IsInMemory regions.code (regions.stack ∷ regions.data_ranges) rules.in_memory) (tested (in_code regions at) (admitted_if_used (in_code regions) at (decoded (slice_index memory at) (slice_index memory (ahead at 1)) (slice_index memory (ahead at 2)))) found is)
 
 module _ (laws : Laws) (grounds : (regions : Areas) → AreRegions regions → Ground regions) (image : Located) (quiet : ℕ → Bool) (is_set : Bool) (handlers places : List ℕ) (ways : List Way) (listed : Listed) (main : ℕ) (inner : HandlerBounds) (rules : AreRegions image.regions)
-    (quiet_data : (at : ℕ) → quiet at ≡ true → in_data image.regions at ≡ true) (loud : (at : ℕ) → quiet at ≡ true → inner.written at ≡ false) (mtable : List FollowedState) (main_fits : Follows image true quiet is_set ways listed mtable main)
+    (quiet_data : (at : ℕ) → quiet at ≡ true → in_data image.regions at ≡ true) (loud : (at : ℕ) → quiet at ≡ true → inner.written at ≡ false) (mtable : List FollowedState) (main_fits : Follows image true quiet is_set (ways_of ways places) listed mtable main)
     (placed : (at : ℕ) → Contains (places_among mtable main_fits.summaries) at → Contains places at)
     (tables : (h : ℕ) → Contains handlers h → HandlesAmong image mtable inner.written quiet inner.ways places listed inner.bytes h) (room : main + inner.bytes ≤ image.regions.stack.length) where
   abbrev ground : Ground image.regions
@@ -164,25 +164,25 @@ module _ (laws : Laws) (grounds : (regions : Areas) → AreRegions regions → G
 
   -- what is known between interrupts
   abbrev MainKnows : (set enabled : Bool) → World → Type 0
-  MainKnows set enabled w = KnowsCalls laws grounds image true quiet is_set ways listed mtable main rules quiet_data main_fits few_main set enabled w
+  MainKnows set enabled w = KnowsCalls laws grounds image true quiet is_set (ways_of ways places) listed mtable main rules quiet_data main_fits few_main placed set enabled w
 
   main_disturbs : (set enabled : Bool) (w v : World) → MainKnows set enabled w → (by : Disturbs image.regions (respected_pointer image.regions set w) w v) → StaysQuiet quiet w.machine.memory by.memory → MainKnows set enabled v
-  main_disturbs = disturbs_calls laws grounds image true quiet is_set ways listed mtable main rules quiet_data main_fits few_main
+  main_disturbs = disturbs_calls laws grounds image true quiet is_set (ways_of ways places) listed mtable main rules quiet_data main_fits few_main placed
 
   main_executes : (before may : Bool) (w v : World) → MainKnows before may w → (by : Executes image.regions (IsLeftOpenAt listed) w v) → MainKnows (before || sets_sp by.found.instr) (enabled_after by.found.instr may) v
-  main_executes = executes_calls laws grounds image true quiet is_set ways listed mtable main rules quiet_data main_fits few_main
+  main_executes = executes_calls laws grounds image true quiet is_set (ways_of ways places) listed mtable main rules quiet_data main_fits few_main placed
 
   main_wakes : (set : Bool) (w v : World) → MainKnows set true w → Wakes w v → MainKnows set true v
-  main_wakes set w v k by = wakes_calls laws grounds image true quiet is_set ways listed mtable main rules quiet_data main_fits few_main set true w v k refl refl by
+  main_wakes set w v k by = wakes_calls laws grounds image true quiet is_set (ways_of ways places) listed mtable main rules quiet_data main_fits few_main placed set true w v k refl refl by
 
-  main_keeps : (set enabled : Bool) (w : World) → MainKnows set enabled w → KeepsFollowed image true main ways listed w
-  main_keeps = keeps_calls laws grounds image true quiet is_set ways listed mtable main rules quiet_data main_fits few_main
+  main_keeps : (set enabled : Bool) (w : World) → MainKnows set enabled w → KeepsFollowed image true main (ways_of ways places) listed w
+  main_keeps = keeps_calls laws grounds image true quiet is_set (ways_of ways places) listed mtable main rules quiet_data main_fits few_main placed
 
   main_stands : (set enabled : Bool) (w : World) → MainKnows set enabled w → Contains (places_among mtable main_fits.summaries) w.machine.cpu.pc
-  main_stands = stands_calls laws grounds image true quiet is_set ways listed mtable main rules quiet_data main_fits few_main
+  main_stands = stands_calls laws grounds image true quiet is_set (ways_of ways places) listed mtable main rules quiet_data main_fits few_main placed
 
   main_ready : (set : Bool) (w : World) → MainKnows set true w → IsReady image main set w
-  main_ready set w k = ready_calls laws grounds image true quiet is_set ways listed mtable main rules quiet_data main_fits few_main set true w k refl refl
+  main_ready set w k = ready_calls laws grounds image true quiet is_set (ways_of ways places) listed mtable main rules quiet_data main_fits few_main placed set true w k refl refl
 
   module _ (start : Machine) (pc : start.cpu.pc ≡ image.start) (whole : length start.memory ≡ 65536) (code : HasCode image start.memory) (held : HoldsBytes start) (top : is_set ≡ true → start.cpu.sp ≡ top_of image.regions) where
     record Runs (set : Bool) (flag : Enable) (w : World) : Type 0 where
@@ -193,7 +193,7 @@ module _ (laws : Laws) (grounds : (regions : Areas) → AreRegions regions → G
     -- what is known while a handler is executed
     record Handling (u : World) (flag : Enable) (w : World) : Type 0 where
       h : ℕ
-      of : HandlerTable image mtable inner.written quiet inner.ways listed inner.bytes h
+      of : HandlerTable image mtable inner.written quiet inner.ways places listed inner.bytes h
       placed_in : All (λ s. Contains places s.at) of.table
       count : ℕ
       few : count ≤ main
@@ -219,8 +219,8 @@ module _ (laws : Laws) (grounds : (regions : Areas) → AreRegions regions → G
       state : FollowedState
       state = x.known.state
 
-      handles : Handles image mtable inner.written x.of.bounds quiet x.of.fits.code x.of.ways listed x.of.table x.of.bytes x.known.state
-      handles = one_of (λ s. Handles image mtable inner.written x.of.bounds quiet x.of.fits.code x.of.ways listed x.of.table x.of.bytes s) x.of.table x.known.place x.known.state x.of.fits.states x.known.there
+      handles : Handles image mtable inner.written x.of.bounds quiet x.of.fits.code (ways_of x.of.ways places) listed x.of.table x.of.bytes x.known.state
+      handles = one_of (λ s. Handles image mtable inner.written x.of.bounds quiet x.of.fits.code (ways_of x.of.ways places) listed x.of.table x.of.bytes s) x.of.table x.known.place x.known.state x.of.fits.states x.known.there
 
       abbrev found : Fetched
       found = handles.found
@@ -244,25 +244,25 @@ module _ (laws : Laws) (grounds : (regions : Areas) → AreRegions regions → G
       anywhere = anywhere_of image.regions m.memory m.cpu.pc found fetched
 
       -- a state that fits as any does
-      module _ (fixed : uses_pointer found.instr ≡ false) (fits : StateFollows image x.of.bounds true quiet x.of.fits.code x.of.ways listed x.of.table x.of.bytes x.known.state) where
+      module _ (fixed : uses_pointer found.instr ≡ false) (fits : StateFollows image x.of.bounds true quiet x.of.fits.code (ways_of x.of.ways places) listed x.of.table x.of.bytes x.known.state) where
         found_same : found ≡ fits.stands.found
         found_same = same_ok (fetch_at image.regions (memory_of image.chunks) x.known.state.at) found fits.stands.found handles.executed.fetched fits.stands.executed.fetched
 
-        abbrev entry : StateFollows part (bounds_of part) true quiet x.of.fits.code x.of.ways listed x.of.table x.of.bytes x.known.state
-        entry = fits_more x.of.bounds (bounds_of part) wide image (part_below image.regions x.count) true quiet x.of.fits.code x.of.ways listed x.of.table x.of.bytes x.known.state fits (subst (λ (f : Fetched). uses_pointer f.instr ≡ false) found_same fixed) handles.enough
+        abbrev entry : StateFollows part (bounds_of part) true quiet x.of.fits.code (ways_of x.of.ways places) listed x.of.table x.of.bytes x.known.state
+        entry = fits_more x.of.bounds (bounds_of part) wide image (part_below image.regions x.count) true quiet x.of.fits.code (ways_of x.of.ways places) listed x.of.table x.of.bytes x.known.state fits (subst (λ (f : Fetched). uses_pointer f.instr ≡ false) found_same fixed) handles.enough
 
         abbrev stood : StateStands part true quiet listed x.of.bytes x.known.state
         stood = entry.stands
 
-        kept : KeepsFollowed part true x.of.bytes x.of.ways listed w
-        kept = keeps_table laws part true (entry_of u) quiet true x.of.ways listed x.of.table x.of.bytes (regions_below image.regions x.count rules) (ground_below x.count) quiet_data x.of.fits.code x.of.fits.are_code enough_room true (may_come flag) w x.known entry
+        kept : KeepsFollowed part true x.of.bytes (ways_of x.of.ways places) listed w
+        kept = keeps_table laws part true (entry_of u) quiet true (ways_of x.of.ways places) listed x.of.table x.of.bytes (regions_below image.regions x.count rules) (ground_below x.count) quiet_data x.of.fits.code x.of.fits.are_code enough_room true (may_come flag) w x.known entry
 
         touches : All (Touches part.regions (ground_below x.count) x.of.bytes) (stack_bytes fits.stands.found.instr m.cpu)
-        touches = touches_stack laws part true (entry_of u) quiet true x.of.ways listed x.of.table x.of.bytes (regions_below image.regions x.count rules) (ground_below x.count) quiet_data x.of.fits.code x.of.fits.are_code enough_room true (may_come flag) w x.known entry
+        touches = touches_stack laws part true (entry_of u) quiet true (ways_of x.of.ways places) listed x.of.table x.of.bytes (regions_below image.regions x.count rules) (ground_below x.count) quiet_data x.of.fits.code x.of.fits.are_code enough_room true (may_come flag) w x.known entry
 
         pointed_written : (k d : ℕ) → k < length (pointed_bytes fits.stands.found.instr m.cpu.registers) → in_data image.regions (get_or (pointed_bytes fits.stands.found.instr m.cpu.registers) k d) ≡ true → inner.written (get_or (pointed_bytes fits.stands.found.instr m.cpu.registers) k d) ≡ true
         pointed_written k d inside =
-            let p = points laws part true (entry_of u) quiet true x.of.ways listed x.of.table x.of.bytes (regions_below image.regions x.count rules) (ground_below x.count) quiet_data x.of.fits.code x.of.fits.are_code enough_room true (may_come flag) w x.known stood
+            let p = points laws part true (entry_of u) quiet true (ways_of x.of.ways places) listed x.of.table x.of.bytes (regions_below image.regions x.count rules) (ground_below x.count) quiet_data x.of.fits.code x.of.fits.are_code enough_room true (may_come flag) w x.known stood
             (get_or (pointed_bytes fits.stands.found.instr m.cpu.registers) k d) (Contains-get_or (pointed_bytes fits.stands.found.instr m.cpu.registers) k d inside) in
             handles.pointed p.span (subst (λ (f : Fetched). pointer_span f.instr x.known.state.known ≡ Some p.span) (sym found_same) p.is) (get_or (pointed_bytes fits.stands.found.instr m.cpu.registers) k d) p.within
 
@@ -284,13 +284,13 @@ module _ (laws : Laws) (grounds : (regions : Areas) → AreRegions regions → G
           by_found = same_some by.found found (sym by.fetched ∙ anywhere) ∙ found_same
 
           known_then : KnowsWorld part true (entry_of u) x.of.table true (enabled_after by.found.instr (may_come flag)) v
-          known_then = executes_found laws part true (entry_of u) quiet true x.of.ways listed x.of.table x.of.bytes (regions_below image.regions x.count rules) (ground_below x.count) quiet_data x.of.fits.code x.of.fits.are_code enough_room true (may_come flag) w x.known entry v by_part by_found
+          known_then = executes_found laws part true (entry_of u) quiet true (ways_of x.of.ways places) listed x.of.table x.of.bytes (regions_below image.regions x.count rules) (ground_below x.count) quiet_data x.of.fits.code x.of.fits.are_code enough_room true (may_come flag) w x.known entry v by_part by_found
 
           goes : unguarded fits.stands.found.instr by.byte fits.stands.found.next m ≡ Some by.after
           goes = subst (λ (f : Fetched). unguarded f.instr by.byte f.next m ≡ Some by.after) by_found by.goes
 
           stays : StaysInside part.regions m fits.stands.found.instr
-          stays = stays_inside laws part true (entry_of u) quiet true x.of.ways listed x.of.table x.of.bytes (regions_below image.regions x.count rules) (ground_below x.count) quiet_data x.of.fits.code x.of.fits.are_code enough_room true (may_come flag) w x.known stood
+          stays = stays_inside laws part true (entry_of u) quiet true (ways_of x.of.ways places) listed x.of.table x.of.bytes (regions_below image.regions x.count rules) (ground_below x.count) quiet_data x.of.fits.code x.of.fits.are_code enough_room true (may_come flag) w x.known stood
               (λ at. subst (λ (f : Fetched). StaysInside part.regions m f.instr) by_found (by_part.inside at))
 
           memory_then : v.machine.memory ≡ stored m.memory (stores fits.stands.found.instr fits.stands.found.next m.memory m.cpu)
@@ -338,8 +338,8 @@ module _ (laws : Laws) (grounds : (regions : Areas) → AreRegions regions → G
                     λ same. absurd (omega (arith, same, high, above, sp, low))
 
           -- the state behind it has its word to return to, so SP isn't what it was
-          then_handles : Handles image mtable inner.written x.of.bounds quiet x.of.fits.code x.of.ways listed x.of.table x.of.bytes known_then.state
-          then_handles = one_of (λ s. Handles image mtable inner.written x.of.bounds quiet x.of.fits.code x.of.ways listed x.of.table x.of.bytes s) x.of.table known_then.place known_then.state x.of.fits.states known_then.there
+          then_handles : Handles image mtable inner.written x.of.bounds quiet x.of.fits.code (ways_of x.of.ways places) listed x.of.table x.of.bytes known_then.state
+          then_handles = one_of (λ s. Handles image mtable inner.written x.of.bounds quiet x.of.fits.code (ways_of x.of.ways places) listed x.of.table x.of.bytes s) x.of.table known_then.place known_then.state x.of.fits.states known_then.there
 
           pointer_then : v.machine.cpu.sp ≡ pointer_at (bounds_of part) (count_of (stack_of known_then.state))
           pointer_then = stands_at (bounds_of part) v.machine.cpu.sp v.machine.memory (stack_of known_then.state) then_handles.enough known_then.stack
@@ -440,19 +440,19 @@ module _ (laws : Laws) (grounds : (regions : Areas) → AreRegions regions → G
           after_is_fresh = lxi_goes (top_of image.regions) by.byte found.next m by.after (subst (λ (i : Instr). unguarded i by.byte found.next m ≡ Some by.after) anew.sets (subst (λ (f : Fetched). unguarded f.instr by.byte f.next m ≡ Some by.after) anew_found by.goes))
 
           abbrev begun_world : List ℕ → World
-          begun_world places = record { machine = fresh; places = places }
+          begun_world calls = record { machine = fresh; places = calls }
 
           fresh_bytes : HoldsBytes fresh
           fresh_bytes = record { registers = x.known.bytes.registers; memory = x.known.bytes.memory; inputs = x.known.bytes.inputs }
 
-          begun_known : (places : List ℕ) → MainKnows true false (begun_world places)
-          begun_known places = in_main laws grounds image true quiet is_set ways listed mtable main rules quiet_data main_fits few_main true false (begun_world places) (enters_table laws image true nobody quiet is_set ways listed mtable main rules ground quiet_data main_fits.code main_fits.are_code few_main true false nothing_beside (begun_world places) nothing_known (Some [])
+          begun_known : (calls : List ℕ) → MainKnows true false (begun_world calls)
+          begun_known calls = in_main laws grounds image true quiet is_set (ways_of ways places) listed mtable main rules quiet_data main_fits few_main placed true false (begun_world calls) (enters_table laws image true nobody quiet is_set (ways_of ways places) listed mtable main rules ground quiet_data main_fits.code main_fits.are_code few_main true false nothing_beside (begun_world calls) nothing_known (Some [])
               anew.has (λ is. is) (nothing_holds (bounds_of image) nobody false 0 fresh) (λ on is. cc) (laws.holds fresh fresh_bytes).nothing (record { pointer = omega arith; within = omega arith; each = tt }, refl) fresh_bytes x.known.whole (λ a there. x.known.code a there))
 
           anew_known : MainKnows true false v
           anew_known =
-              let places = places_after by.found.instr by.found.next m.cpu.registers.flags w.places in
-              subst (λ (z : World). MainKnows true false z) (sym (by.is ∙ ap (λ (z : Machine). record { machine = z; places = places }) after_is_fresh)) (begun_known places)
+              let calls = places_after by.found.instr by.found.next m.cpu.registers.flags w.places in
+              subst (λ (z : World). MainKnows true false z) (sym (by.is ∙ ap (λ (z : Machine). record { machine = z; places = calls }) after_is_fresh)) (begun_known calls)
 
       -- devices
       disturbs_handler : (v : World) (by : Disturbs image.regions m.cpu.sp w v) → StaysQuiet quiet m.memory by.memory → Handling u flag v
@@ -465,7 +465,7 @@ module _ (laws : Laws) (grounds : (regions : Areas) → AreRegions regions → G
         at = x.at;
         u_known = x.u_known;
         u_small = x.u_small;
-        known = disturbs_table laws part true (entry_of u) quiet true x.of.ways listed x.of.table x.of.bytes (regions_below image.regions x.count rules) (ground_below x.count) quiet_data x.of.fits.code x.of.fits.are_code enough_room true (may_come flag) w (with_memory w by.memory) x.known handles.knows
+        known = disturbs_table laws part true (entry_of u) quiet true (ways_of x.of.ways places) listed x.of.table x.of.bytes (regions_below image.regions x.count rules) (ground_below x.count) quiet_data x.of.fits.code x.of.fits.are_code enough_room true (may_come flag) w (with_memory w by.memory) x.known handles.knows
             (record { memory = by.memory; leaves = record { code = by.leaves.code; pushed = λ a is. by.leaves.pushed a (wider a is); size = by.leaves.size; bytes = by.leaves.bytes }; is = refl }) stays;
         left = record {
           pushed = λ a is. by.leaves.pushed a (record { in_stack = is.in_stack; above = lower a is; filled = filled_here }) ∙ x.left.pushed a is;
@@ -500,7 +500,7 @@ module _ (laws : Laws) (grounds : (regions : Areas) → AreRegions regions → G
 
     -- an interrupt that comes between two instructions of the program
     module _ (u : World) (u_known : MainKnows true true u) (ready : IsReady image main true u) (u_small : u.machine.cpu.pc < 65536) (h : ℕ) (has : Contains handlers h) where
-      abbrev of : HandlerTable image mtable inner.written quiet inner.ways listed inner.bytes h
+      abbrev of : HandlerTable image mtable inner.written quiet inner.ways places listed inner.bytes h
       of = (tables h has).of
 
       abbrev n : ℕ
@@ -517,8 +517,8 @@ module _ (laws : Laws) (grounds : (regions : Areas) → AreRegions regions → G
 
       two_fit_here : 2 ≤ image.regions.stack.length - n
       two_fit_here = let few = ready.few in let less = of.few in let some = started.few in let enough = started.enough in omega (arith, few, less, some, enough, room) where
-        started : Handles image mtable inner.written of.bounds quiet of.fits.code of.ways listed of.table of.bytes of.fits.start.state
-        started = one_of (λ s. Handles image mtable inner.written of.bounds quiet of.fits.code of.ways listed of.table of.bytes s) of.table of.fits.start.place of.fits.start.state of.fits.states of.fits.start.there
+        started : Handles image mtable inner.written of.bounds quiet of.fits.code (ways_of of.ways places) listed of.table of.bytes of.fits.start.state
+        started = one_of (λ s. Handles image mtable inner.written of.bounds quiet of.fits.code (ways_of of.ways places) listed of.table of.bytes s) of.table of.fits.start.place of.fits.start.state of.fits.states of.fits.start.there
 
       -- a byte off the stack, and one that is pushed
       off_it : (a : ℕ) → in_range image.regions.stack a ≡ false → slice_index into.machine.memory a ≡ slice_index u.machine.memory a
@@ -566,7 +566,7 @@ module _ (laws : Laws) (grounds : (regions : Areas) → AreRegions regions → G
         at = ready.pointer;
         u_known = u_known;
         u_small = u_small;
-        known = enters_table laws (below n) true (entry_of u) quiet true of.ways listed of.table of.bytes (regions_below image.regions n rules) (ground_below n) quiet_data of.fits.code of.fits.are_code (let few = ready.few in let less = of.few in omega (arith, few, less, room)) true false entered_beside into nothing_known entered_stack
+        known = enters_table laws (below n) true (entry_of u) quiet true (ways_of of.ways places) listed of.table of.bytes (regions_below image.regions n rules) (ground_below n) quiet_data of.fits.code of.fits.are_code (let few = ready.few in let less = of.few in omega (arith, few, less, room)) true false entered_beside into nothing_known entered_stack
             of.fits.start (λ is. is) into_held (λ h is. refl) (laws.holds into.machine into_held_bytes).nothing
             (into_stack grounds image rules n low_n u.machine u.machine.cpu.pc h u_small at_top two_fit_here u_known.known.bytes u_known.known.whole, refl) into_held_bytes
             (into_whole grounds image rules n low_n u.machine u.machine.cpu.pc h u_small at_top two_fit_here u_known.known.bytes u_known.known.whole) (λ a there. off_it a (ground.code_or_stack a there) ∙ u_known.known.code a there);
@@ -619,7 +619,7 @@ module _ (laws : Laws) (grounds : (regions : Areas) → AreRegions regions → G
         by_test true is = absurd (apart (grind (arith, nat_tests, is)))
         by_test false is = is
 
-      plain : uses_pointer (handles u was w x).found.instr ≡ false → (fits : StateFollows image x.of.bounds true quiet x.of.fits.code x.of.ways listed x.of.table x.of.bytes x.known.state) → Now
+      plain : uses_pointer (handles u was w x).found.instr ≡ false → (fits : StateFollows image x.of.bounds true quiet x.of.fits.code (ways_of x.of.ways places) listed x.of.table x.of.bytes x.known.state) → Now
       plain fixed fits = settled false false (ap (λ (f : Fetched). sets_sp f.instr) found_here ∙ sets_uses (handles u was w x).found.instr fixed) (nat_apart v.machine.cpu.sp u.machine.cpu.sp (not_over u was w x fixed fits v by))
           (refl, handling_then u was w x fixed fits v by (enable_after by.found.instr was) refl (now_then x.now)) where
             lets_here : by.found.instr ≡ Ei → IsReturn image v.machine.cpu.pc × (v.machine.cpu.sp ≡ pointer_at (bounds_of (below x.count)) 2)
@@ -656,7 +656,7 @@ module _ (laws : Laws) (grounds : (regions : Areas) → AreRegions regions → G
         more = λ may. absurd (true≢false (sym may ∙ ap may_come (ap (λ (i : Instr). enable_after i was) (ap (λ (f : Fetched). f.instr) found_here ∙ anew.sets) ∙ ap passed (was_off u was w x anew))));
       })
 
-      split : EndsAt image mtable (handles u was w x).found x.known.state ⊎ ((uses_pointer (handles u was w x).found.instr ≡ false) × StateFollows image x.of.bounds true quiet x.of.fits.code x.of.ways listed x.of.table x.of.bytes x.known.state) → Now
+      split : EndsAt image mtable (handles u was w x).found x.known.state ⊎ ((uses_pointer (handles u was w x).found.instr ≡ false) × StateFollows image x.of.bounds true quiet x.of.fits.code (ways_of x.of.ways places) listed x.of.table x.of.bytes x.known.state) → Now
       split (inl (inl both)) = ends both
       split (inl (inr anew)) = starts_anew anew
       split (inr (fixed, fits)) = plain fixed fits
@@ -670,7 +670,7 @@ module _ (laws : Laws) (grounds : (regions : Areas) → AreRegions regions → G
     knows set flag under w (begins _ _ _ _ is same is_off none) =
         subst (λ (o : Option World). Knows set flag o w) (sym none) (record { enabled = false; main_known = started; more = λ may. absurd (let no : may_come flag ≡ false = ap may_come is_off in true≢false (sym may ∙ no)) }) where
           started : MainKnows set false w
-          started = subst (λ (b : Bool). MainKnows b false w) (sym same) (subst (λ (z : World). MainKnows is_set false z) (sym is) (begun_calls laws grounds image true quiet is_set ways listed mtable main rules quiet_data main_fits few_main start pc whole code held top))
+          started = subst (λ (b : Bool). MainKnows b false w) (sym same) (subst (λ (z : World). MainKnows is_set false z) (sym is) (begun_calls laws grounds image true quiet is_set (ways_of ways places) listed mtable main rules quiet_data main_fits few_main placed start pc whole code held top))
     knows set flag None w (disturbed _ _ _ v _ before by stays) = let runs = knows set flag None v before in record { enabled = runs.enabled; main_known = main_disturbs set runs.enabled v w runs.main_known by stays; more = runs.more }
     knows set flag (Some u) w (disturbed _ _ _ v _ before by stays) =
         let known = knows set flag (Some u) v before in
@@ -700,7 +700,7 @@ module _ (laws : Laws) (grounds : (regions : Areas) → AreRegions regions → G
       at = w.machine
 
       abbrev Fits : Type 0
-      Fits = StateFollows image x.of.bounds true quiet x.of.fits.code x.of.ways listed x.of.table x.of.bytes x.known.state
+      Fits = StateFollows image x.of.bounds true quiet x.of.fits.code (ways_of x.of.ways places) listed x.of.table x.of.bytes x.known.state
 
       abbrev Either : Type 0
       Either = EndsAt image mtable here x.known.state ⊎ ((uses_pointer here.instr ≡ false) × Fits)
@@ -722,10 +722,10 @@ module _ (laws : Laws) (grounds : (regions : Areas) → AreRegions regions → G
       writes_by_pair (inr (fixed, fits)) = subst (λ (f : Fetched). All MayWrite (pointed_bytes f.instr at.cpu.registers)) (sym (found_same u flag w x fixed fits)) (pointed_written u flag w x fixed fits)
 
       abbrev Back : ℕ → Type 0
-      Back to = (to ≡ u.machine.cpu.pc) ⊎ IsWay image inner.ways at.cpu.pc to
+      Back to = (to ≡ u.machine.cpu.pc) ⊎ IsWay image (ways_of inner.ways places) at.cpu.pc to
 
-      among_all : (to : ℕ) → IsWay (below x.count) x.of.ways at.cpu.pc to → IsWay image inner.ways at.cpu.pc to
-      among_all to (inl behind_call) = inl (record { at = behind_call.at; found = behind_call.found; fetched = behind_call.fetched; calls = behind_call.calls; next = behind_call.next })
+      among_all : (to : ℕ) → IsWay (below x.count) (ways_of x.of.ways places) at.cpu.pc to → IsWay image (ways_of inner.ways places) at.cpu.pc to
+      among_all to (inl behind_call) = inl (record { at = behind_call.at; placed = behind_call.placed; found = behind_call.found; fetched = behind_call.fetched; calls = behind_call.calls; next = behind_call.next })
       among_all to (inr there) = inr (x.of.among (record { at = at.cpu.pc; to = to }) there)
 
       returning_of : Either → returns here.instr at.cpu.registers.flags ≡ true → Back (target here.instr here.next at.memory at.cpu)
@@ -733,13 +733,13 @@ module _ (laws : Laws) (grounds : (regions : Areas) → AreRegions regions → G
       returning_of (inl (inr anew)) taken = absurd (true≢false (sym taken ∙ ap (λ (i : Instr). returns i at.cpu.registers.flags) anew.sets))
       returning_of (inr (fixed, fits)) taken =
           let same = kept_found fixed fits in
-          inr (among_all (target here.instr here.next at.memory at.cpu) (subst (λ (f : Fetched). IsWay (below x.count) x.of.ways at.cpu.pc (target f.instr f.next at.memory at.cpu)) same
+          inr (among_all (target here.instr here.next at.memory at.cpu) (subst (λ (f : Fetched). IsWay (below x.count) (ways_of x.of.ways places) at.cpu.pc (target f.instr f.next at.memory at.cpu)) same
           ((kept u flag w x fixed fits).returning (subst (λ (f : Fetched). returns f.instr at.cpu.registers.flags ≡ true) (sym same) taken))))
 
       no_pchl : (i : Instr) → here.instr ≡ i → i ≢ Pchl → here.instr ≡ Pchl → ⊥
       no_pchl i is other jumps = other (sym is ∙ jumps)
 
-      jumping_of : Either → here.instr ≡ Pchl → targets_at image.regions at.cpu.pc ≡ None → IsWay image inner.ways at.cpu.pc (hl_of at.cpu.registers)
+      jumping_of : Either → here.instr ≡ Pchl → targets_at image.regions at.cpu.pc ≡ None → IsWay image (ways_of inner.ways places) at.cpu.pc (hl_of at.cpu.registers)
       jumping_of (inl (inl both)) jumps none = absurd (no_pchl Ret both.0 (λ e. cc) jumps)
       jumping_of (inl (inr anew)) jumps none = absurd (no_pchl (Lxi Sp (top_of image.regions)) anew.sets (λ e. cc) jumps)
       jumping_of (inr (fixed, fits)) jumps none = among_all (hl_of at.cpu.registers) ((kept u flag w x fixed fits).jumping (ap (λ (f : Fetched). f.instr) (kept_found fixed fits) ∙ jumps) none)
@@ -808,7 +808,7 @@ module _ (laws : Laws) (grounds : (regions : Areas) → AreRegions regions → G
       back_of v by unset over_then (inl (inr anew)) = absurd (true≢false (sym (ap sets_sp anew.sets) ∙ unset))
       back_of v by unset over_then (inr (fixed, fits)) = absurd (not_over u flag w x fixed fits v by (grind (arith, nat_tests, over_then)))
 
-      keeps_handler : KeepsHandler image main inner listed flag u w
+      keeps_handler : KeepsHandler image places main inner listed flag u w
       keeps_handler = record {
         found = here;
         anywhere = anywhere u flag w x;
@@ -842,11 +842,11 @@ module _ (laws : Laws) (grounds : (regions : Areas) → AreRegions regions → G
       comes_so (inl both) = ap may_come both.0
       comes_so (inr both) = both.0
 
-      of : HandlerTable image mtable inner.written quiet inner.ways listed inner.bytes h
+      of : HandlerTable image mtable inner.written quiet inner.ways places listed inner.bytes h
       of = (tables h has).of
 
-      started : Handles image mtable inner.written of.bounds quiet of.fits.code of.ways listed of.table of.bytes of.fits.start.state
-      started = one_of (λ s. Handles image mtable inner.written of.bounds quiet of.fits.code of.ways listed of.table of.bytes s) of.table of.fits.start.place of.fits.start.state of.fits.states of.fits.start.there
+      started : Handles image mtable inner.written of.bounds quiet of.fits.code (ways_of of.ways places) listed of.table of.bytes of.fits.start.state
+      started = one_of (λ s. Handles image mtable inner.written of.bounds quiet of.fits.code (ways_of of.ways places) listed of.table of.bytes s) of.table of.fits.start.place of.fits.start.state of.fits.states of.fits.start.there
 
       by : IsReady image main set w → All (IsOnStack image (main + inner.bytes)) (behind w.machine.cpu.sp 1 ∷ behind w.machine.cpu.sp 2 ∷ [])
       by ready =

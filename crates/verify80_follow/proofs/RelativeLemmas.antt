@@ -17,6 +17,7 @@ use Rattle.verify80_follow.specs.Stack.{called_on, if_true, stack_after, stack_t
 use Rattle.verify80_follow.specs.Held.{beside_then, count_of}
 use Rattle.verify80_follow.specs.Follows.{Covers, CoversThen, FollowsBy, IsWay, JumpsBy, LeadsTo, ReturnsLeft}
 use Rattle.verify80_follow.specs.Follows.{Goes, PassesBy, ReturnsBack, StateFollows, StateStands, StepsOver, stack_of, uses_pointer}
+use Rattle.verify80_follow.specs.Follows.{Ways}
 use Rattle.verify80_follow.specs.Handling.{on_stack}
 
 -- where there is room there is more
@@ -57,7 +58,7 @@ module _ (one other : StackBounds) (more : one.length ≤ other.length) where
   known_same code i (Some bytes) s fixed enough = refl
 
   -- an image with another stack
-  module _ (image : Located) (range : Range) (interrupted : Bool) (code : List (Option ℕ)) (ways : List Way) (table : List FollowedState) (bytes : ℕ) (s : FollowedState) (found : Fetched) (fixed : uses_pointer found.instr ≡ false) (enough : 2 ≤ count_of (stack_of s)) where
+  module _ (image : Located) (range : Range) (interrupted : Bool) (code : List (Option ℕ)) (ways : Ways) (table : List FollowedState) (bytes : ℕ) (s : FollowedState) (found : Fetched) (fixed : uses_pointer found.instr ≡ false) (enough : 2 ≤ count_of (stack_of s)) where
     then_covers : (taken : Bool) (to : ℕ) (known : Known) → CoversThen image one interrupted code ways table bytes s found taken to known → CoversThen (on_stack image range) other interrupted code ways table bytes s found taken to known
     then_covers taken to known c = record {
       stack = c.stack;
@@ -71,7 +72,7 @@ module _ (one other : StackBounds) (more : one.length ≤ other.length) where
     leads_more taken to (Some known) leads = then_covers taken to known leads
 
     way_more : (at to : ℕ) → IsWay image ways at to → IsWay (on_stack image range) ways at to
-    way_more at to (inl behind) = inl (record { at = behind.at; found = behind.found; fetched = behind.fetched; calls = behind.calls; next = behind.next })
+    way_more at to (inl behind) = inl (record { at = behind.at; placed = behind.placed; found = behind.found; fetched = behind.fetched; calls = behind.calls; next = behind.next })
     way_more at to (inr listed) = inr listed
 
     returns_more : (left : Option Known) → ReturnsLeft image one interrupted code ways table bytes s found left → ReturnsLeft (on_stack image range) other interrupted code ways table bytes s found left
@@ -105,7 +106,7 @@ stands_more image range interrupted quiet listed bytes s stands = record {
 }
 
 -- a state that fits
-abbrev pub fits_more : (one other : StackBounds) → one.length ≤ other.length → (image : Located) (range : Range) (interrupted : Bool) (quiet : ℕ → Bool) (code : List (Option ℕ)) (ways : List Way) (listed : Listed) (table : List FollowedState) (bytes : ℕ) (s : FollowedState) →
+abbrev pub fits_more : (one other : StackBounds) → one.length ≤ other.length → (image : Located) (range : Range) (interrupted : Bool) (quiet : ℕ → Bool) (code : List (Option ℕ)) (ways : Ways) (listed : Listed) (table : List FollowedState) (bytes : ℕ) (s : FollowedState) →
     (fits : StateFollows image one interrupted quiet code ways listed table bytes s) → uses_pointer fits.stands.found.instr ≡ false → 2 ≤ count_of (stack_of s) → StateFollows (on_stack image range) other interrupted quiet code ways listed table bytes s
 fits_more one other more image range interrupted quiet code ways listed table bytes s fits fixed enough = record {
   stands = stands_more image range interrupted quiet listed bytes s fits.stands;
@@ -113,7 +114,7 @@ fits_more one other more image range interrupted quiet code ways listed table by
 }
 
 -- the same of a call that is stepped over, and of a return
-module _ (one other : StackBounds) (more : one.length ≤ other.length) (image : Located) (range : Range) (interrupted : Bool) (quiet : ℕ → Bool) (code : List (Option ℕ)) (ways : List Way) (listed : Listed) (summaries : List Summary) (table : List FollowedState) (bytes : ℕ) (s : FollowedState) (enough : 2 ≤ count_of (stack_of s))
+module _ (one other : StackBounds) (more : one.length ≤ other.length) (image : Located) (range : Range) (interrupted : Bool) (quiet : ℕ → Bool) (code : List (Option ℕ)) (ways : Ways) (listed : Listed) (summaries : List Summary) (table : List FollowedState) (bytes : ℕ) (s : FollowedState) (enough : 2 ≤ count_of (stack_of s))
     (fixed : (found : Fetched) → fetch_at image.regions (memory_of image.chunks) s.at ≡ Ok found → uses_pointer found.instr ≡ false) where
   passes_more : (found : Fetched) → uses_pointer found.instr ≡ false → (w : Flow) → PassesBy image one interrupted quiet code ways listed summaries table bytes s found w → PassesBy (on_stack image range) other interrupted quiet code ways listed summaries table bytes s found w
   passes_more found still (CallsIf condition to) passes = leads_more one other more image range interrupted code ways table bytes s found still enough false found.next (given condition false s.known) passes

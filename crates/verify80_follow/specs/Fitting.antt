@@ -3,23 +3,23 @@
 use Rattle.std.specs.Prelude.{◌≡◌, ◌≤◌, ◌+◌, ℕ, Bool, true, false, List, All}
 use Rattle.image80.specs.Image.{Located}
 use Rattle.verify80_follow.specs.declared.{fit.Table.Table, handling.Handler.Handler}
-use Rattle.verify80_follow.specs.{Follows.Follows, Handling.IsHandled}
+use Rattle.verify80_follow.specs.{Follows.Follows, Follows.ways_of, Handling.IsHandled, Reaching.places_of}
 
 -- a program's table, with its summaries, follows its image, with no more bytes on the stack than STACK has; it believes of quiet addresses alone that
 -- nobody else writes them
-pub record IsFit (image : Located) (interrupted : Bool) (quiet : ℕ → Bool) (is_set : Bool) (table : Table) : Type 0 where
+pub record IsFit (image : Located) (interrupted : Bool) (quiet : ℕ → Bool) (is_set : Bool) (table : Table) (handlers : List Handler) : Type 0 where
   pub marked : ℕ → Bool
   pub within : (at : ℕ) → marked at ≡ true → quiet at ≡ true
-  pub follows : Follows image interrupted marked is_set table.ways.items table.listed table.states.items table.bytes
+  pub follows : Follows image interrupted marked is_set (ways_of table.ways.items (places_of table handlers)) table.listed table.states.items table.bytes
   pub summaries : follows.summaries ≡ table.summaries.items
   pub room : table.bytes ≤ image.regions.stack.length
 
 -- and each of its handlers' tables follows its handler, with no more bytes than `most` below the program's: what handlers write is none of what the program
 -- believes
 pub record AreFit (image : Located) (quiet written : ℕ → Bool) (is_set : Bool) (table : Table) (handlers : List Handler) (most : ℕ) : Type 0 where
-  pub program : IsFit image true quiet is_set table
+  pub program : IsFit image true quiet is_set table handlers
   pub writes : ℕ → Bool
   pub inside : (at : ℕ) → writes at ≡ true → written at ≡ true
   pub apart : (at : ℕ) → program.marked at ≡ true → writes at ≡ false
-  pub handled : All (IsHandled image table.states.items writes program.marked table.listed most) handlers
+  pub handled : All (IsHandled image table.states.items writes program.marked (places_of table handlers) table.listed most) handlers
   pub room : table.bytes + most ≤ image.regions.stack.length

@@ -56,17 +56,26 @@ is_return Returns = true
 is_return (ReturnsIf condition) = true
 is_return w = false
 
--- some address of the image's code has a call that returns to an address
-pub record IsBehindCall (image : Located) (to : ℕ) : Type 0 where
+-- where returns go: by ways that are listed, or behind calls at places where states stand
+pub record Ways : Type 0 where
+  pub listed : List Way
+  pub places : List ℕ
+
+abbrev pub ways_of : List Way → (places : List ℕ) → Ways
+ways_of listed places = record { listed = listed; places = places }
+
+-- one of the places has a call that returns to an address
+pub record IsBehindCall (image : Located) (places : List ℕ) (to : ℕ) : Type 0 where
   pub at : ℕ
+  pub placed : Contains places at
   pub found : Fetched
   pub fetched : fetch_at image.regions (memory_of image.chunks) at ≡ Ok found
   pub calls : is_call (flow found.instr) ≡ true
   pub next : found.next ≡ to
 
 -- a return, or a PCHL without declared targets, goes behind a call, or its way is listed
-abbrev pub IsWay : Located → List Way → (at to : ℕ) → Type 0
-IsWay image ways at to = IsBehindCall image to ⊎ Contains ways (record { at = at; to = to })
+abbrev pub IsWay : Located → Ways → (at to : ℕ) → Type 0
+IsWay image ways at to = IsBehindCall image ways.places to ⊎ Contains ways.listed (record { at = at; to = to })
 
 -- the same of what is left of a stack, if something is, which has no more bytes than these
 pub record CoversStack (table : List FollowedState) (bytes to : ℕ) (known : Known) (beside : Option (List ByteSpan) → Beside) (after : Option (Option (List ByteSpan))) : Type 0 where
@@ -76,7 +85,7 @@ pub record CoversStack (table : List FollowedState) (bytes to : ℕ) (known : Kn
   pub covers : Covers table to known (beside stack) stack
 
 -- what an instruction makes of what is left of a state, if something is, is covered where it leads
-module _ (image : Located) (bounds : StackBounds) (interrupted : Bool) (code : List (Option ℕ)) (ways : List Way) (table : List FollowedState) (bytes : ℕ) (s : FollowedState) (found : Fetched) where
+module _ (image : Located) (bounds : StackBounds) (interrupted : Bool) (code : List (Option ℕ)) (ways : Ways) (table : List FollowedState) (bytes : ℕ) (s : FollowedState) (found : Fetched) where
   abbrev pub CoversThen : (taken : Bool) → (to : ℕ) → Known → Type 0
   CoversThen taken to known = CoversStack table bytes to (known_after code found.instr (top_of_stack bounds (stack_of s)) known) (λ stack. beside_then found.instr (stack_of s) stack s.beside)
       (stack_then bounds found.instr taken found.next known (stack_of s))
@@ -150,7 +159,7 @@ pub record StateStands (image : Located) (interrupted : Bool) (quiet : ℕ → B
   pub knows : IsQuietKnown quiet s.known
 
 -- a state fits: what its instruction makes of it is covered where that leads
-pub record StateFollows (image : Located) (bounds : StackBounds) (interrupted : Bool) (quiet : ℕ → Bool) (code : List (Option ℕ)) (ways : List Way) (listed : Listed) (table : List FollowedState) (bytes : ℕ) (s : FollowedState) : Type 0 where
+pub record StateFollows (image : Located) (bounds : StackBounds) (interrupted : Bool) (quiet : ℕ → Bool) (code : List (Option ℕ)) (ways : Ways) (listed : Listed) (table : List FollowedState) (bytes : ℕ) (s : FollowedState) : Type 0 where
   pub stands : StateStands image interrupted quiet listed bytes s
   pub follows : FollowsBy image bounds interrupted code ways table bytes s stands.found (flow stands.found.instr)
 
@@ -168,7 +177,7 @@ beside_call back = record nothing_beside { is_enabled = true; back = back }
 abbrev pub entered_stack : Option (List ByteSpan)
 entered_stack = Some (any_byte ∷ any_byte ∷ [])
 
-module _ (image : Located) (bounds : StackBounds) (interrupted : Bool) (quiet : ℕ → Bool) (code : List (Option ℕ)) (ways : List Way) (listed : Listed) (summaries : List Summary) (table : List FollowedState) (bytes : ℕ) (s : FollowedState) where
+module _ (image : Located) (bounds : StackBounds) (interrupted : Bool) (quiet : ℕ → Bool) (code : List (Option ℕ)) (ways : Ways) (listed : Listed) (summaries : List Summary) (table : List FollowedState) (bytes : ℕ) (s : FollowedState) where
   -- a call or return under a condition is covered behind it, as far as something is left without the condition
   abbrev pub PassesBy : Fetched → Flow → Type 0
   PassesBy found (CallsIf condition to) = LeadsTo image bounds interrupted code ways table bytes s found false found.next (given condition false s.known)
@@ -208,7 +217,7 @@ module _ (image : Located) (bounds : StackBounds) (interrupted : Bool) (quiet : 
     pub goes : ReturnsBack ⊎ Goes
 
 -- a summary's table follows its procedure from where that is entered, with no more bytes on the stack than the summary says
-pub record FitsSummary (image : Located) (interrupted : Bool) (quiet : ℕ → Bool) (code : List (Option ℕ)) (ways : List Way) (listed : Listed) (summaries : List Summary) (summary : Summary) : Type 0 where
+pub record FitsSummary (image : Located) (interrupted : Bool) (quiet : ℕ → Bool) (code : List (Option ℕ)) (ways : Ways) (listed : Listed) (summaries : List Summary) (summary : Summary) : Type 0 where
   pub bounds : StackBounds
   pub room : bounds.length ≤ summary.bytes
   pub start : Has summary.states.items summary.at nothing_known (beside_call (Some 2)) entered_stack
@@ -220,7 +229,7 @@ first_stack true = Some []
 first_stack false = None
 
 -- a table follows an image, with summaries of procedures that calls step over, and no more bytes on the stack than these
-pub record Follows (image : Located) (interrupted : Bool) (quiet : ℕ → Bool) (is_set : Bool) (ways : List Way) (listed : Listed) (table : List FollowedState) (bytes : ℕ) : Type 0 where
+pub record Follows (image : Located) (interrupted : Bool) (quiet : ℕ → Bool) (is_set : Bool) (ways : Ways) (listed : Listed) (table : List FollowedState) (bytes : ℕ) : Type 0 where
   pub code : List (Option ℕ)
   pub are_code : AreCodeBytes image code
   pub start : Has table image.start nothing_known nothing_beside (first_stack is_set)

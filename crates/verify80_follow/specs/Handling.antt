@@ -14,7 +14,7 @@ use Rattle.verify80_states.specs.{Known.IsQuietKnown, Known.nothing_known, Steps
 use Rattle.verify80_stores.specs.Opening.{pointer_span}
 use Rattle.verify80_follow.specs.declared.handling.Handler.{Handler}
 use Rattle.verify80_follow.specs.declared.{followed.FollowedState.FollowedState, followed.Listed.Listed, followed.Way.Way, held.Beside.Beside, held.HeldPair.HeldPair, stack.StackBounds.StackBounds}
-use Rattle.verify80_follow.specs.{Follows.Has, Follows.IsExecuted, Follows.StateFollows, Follows.entered_stack, Follows.stack_of, Follows.uses_pointer, Held.count_of, Held.nothing_beside}
+use Rattle.verify80_follow.specs.{Follows.Has, Follows.IsExecuted, Follows.StateFollows, Follows.Ways, Follows.entered_stack, Follows.stack_of, Follows.uses_pointer, Follows.ways_of, Held.count_of, Held.nothing_beside}
 
 -- an image with another stack, of which a handler has a part
 abbrev pub on_stack : Located → Range → Located
@@ -53,7 +53,7 @@ EndsAt image main found s = ((found.instr ≡ Ret) × GivesBack s) ⊎ BeginsAne
 
 -- a state of a handler: the handler ends there, or the state fits as any does, and doesn't depend on where the stack lies. It has at least the word to which
 -- the handler returns on its stack, lets interrupts in only directly before that returns, and stores only to data that handlers write.
-pub record Handles (image : Located) (main : List FollowedState) (written : ℕ → Bool) (bounds : StackBounds) (quiet : ℕ → Bool) (code : List (Option ℕ)) (ways : List Way) (listed : Listed) (table : List FollowedState) (bytes : ℕ) (s : FollowedState) : Type 0 where
+pub record Handles (image : Located) (main : List FollowedState) (written : ℕ → Bool) (bounds : StackBounds) (quiet : ℕ → Bool) (code : List (Option ℕ)) (ways : Ways) (listed : Listed) (table : List FollowedState) (bytes : ℕ) (s : FollowedState) : Type 0 where
   pub found : Fetched
   pub executed : IsExecuted image true s.at found
   pub enough : 2 ≤ count_of (stack_of s)
@@ -65,7 +65,7 @@ pub record Handles (image : Located) (main : List FollowedState) (written : ℕ 
   pub goes : EndsAt image main found s ⊎ ((uses_pointer found.instr ≡ false) × StateFollows image bounds true quiet code ways listed table bytes s)
 
 -- a table follows the handler at an address, with no more bytes on the stack than these, the two of the interrupt among them
-pub record HandlesAt (image : Located) (main : List FollowedState) (written : ℕ → Bool) (bounds : StackBounds) (quiet : ℕ → Bool) (ways : List Way) (listed : Listed) (table : List FollowedState) (bytes at : ℕ) : Type 0 where
+pub record HandlesAt (image : Located) (main : List FollowedState) (written : ℕ → Bool) (bounds : StackBounds) (quiet : ℕ → Bool) (ways : Ways) (listed : Listed) (table : List FollowedState) (bytes at : ℕ) : Type 0 where
   pub code : List (Option ℕ)
   pub are_code : AreCodeBytes image code
   pub start : Has table at nothing_known entered_beside entered_stack
@@ -73,23 +73,23 @@ pub record HandlesAt (image : Located) (main : List FollowedState) (written : �
 
 -- a handler's table, with its ways, which are among all of handlers, the bytes of stack that it has at most, and how its stack was bounded when it was
 -- checked
-pub record HandlerTable (image : Located) (main : List FollowedState) (written : ℕ → Bool) (quiet : ℕ → Bool) (all : List Way) (listed : Listed) (most handler : ℕ) : Type 0 where
+pub record HandlerTable (image : Located) (main : List FollowedState) (written : ℕ → Bool) (quiet : ℕ → Bool) (all : List Way) (places : List ℕ) (listed : Listed) (most handler : ℕ) : Type 0 where
   pub table : List FollowedState
   pub ways : List Way
   pub bytes : ℕ
   pub bounds : StackBounds
-  pub fits : HandlesAt image main written bounds quiet ways listed table bytes handler
+  pub fits : HandlesAt image main written bounds quiet (ways_of ways places) listed table bytes handler
   pub few : bytes ≤ most
   pub room : bounds.length ≤ most
   pub among : (way : Way) → Contains ways way → Contains all way
 
 -- the same, and each of the table's states stands at one of these places
 pub record HandlesAmong (image : Located) (main : List FollowedState) (written : ℕ → Bool) (quiet : ℕ → Bool) (all : List Way) (places : List ℕ) (listed : Listed) (most handler : ℕ) : Type 0 where
-  pub of : HandlerTable image main written quiet all listed most handler
+  pub of : HandlerTable image main written quiet all places listed most handler
   pub placed : All (λ s. Contains places s.at) of.table
 
 -- a handler's own table follows it, with no more bytes on the stack than it says, which are no more than these
-pub record IsHandled (image : Located) (main : List FollowedState) (written : ℕ → Bool) (quiet : ℕ → Bool) (listed : Listed) (most : ℕ) (handler : Handler) : Type 0 where
-  pub of : HandlerTable image main written quiet handler.table.ways.items listed handler.table.bytes handler.at
+pub record IsHandled (image : Located) (main : List FollowedState) (written : ℕ → Bool) (quiet : ℕ → Bool) (places : List ℕ) (listed : Listed) (most : ℕ) (handler : Handler) : Type 0 where
+  pub of : HandlerTable image main written quiet handler.table.ways.items places listed handler.table.bytes handler.at
   pub states : of.table ≡ handler.table.states.items
   pub few : handler.table.bytes ≤ most

@@ -14,7 +14,7 @@ use Rattle.machine80.specs.{Effects.target, Run.world_of, Step.Machine, Step.fet
 use Rattle.verify80.specs.Boards.{Disturbs, Executes, IsFollowed, IsPushed, StaysInside, fetched_anywhere, respected_pointer, sets_sp}
 use Rattle.verify80.specs.Looking.{declared_targets, is_declared}
 use Rattle.verify80_states.specs.{Bytes.HoldsBytes, QuietBoards.StaysQuiet, Steps.HasCode}
-use Rattle.verify80_follow.specs.{Follows.Follows, Follows.IsWay, Follows.places_among, Handling.HandlesAmong}
+use Rattle.verify80_follow.specs.{Follows.Follows, Follows.IsWay, Follows.Ways, Follows.places_among, Follows.ways_of, Handling.HandlesAmong}
 use Rattle.verify80_follow.specs.declared.{followed.FollowedState.FollowedState, followed.Listed.Listed, followed.Way.Way, handling.Handler.Handler}
 use Rattle.verify80_follow.specs.InterruptedBoards.{with_pc}
 use Rattle.verify80_follow.specs.Promise.{GoesToListed, IsLeftOpenAt, IsOnStack, KeepsFollowed}
@@ -110,7 +110,7 @@ pub record LiesBelow (was most sp : ℕ) : Type 0 where
 -- handler has bytes, at most, and what was pushed then is unchanged; it sets SP by LXI only to the stack's top; if SP is what it was behind the
 -- instruction, so are all registers and flags, and the program goes on where it was interrupted; and unless the instruction is HLT, the run goes on,
 -- whatever byte comes in, if it stays inside where it is listed
-pub record KeepsHandler (image : Located) (main : ℕ) (inner : HandlerBounds) (listed : Listed) (flag : Enable) (u w : World) : Type 0 where
+pub record KeepsHandler (image : Located) (places : List ℕ) (main : ℕ) (inner : HandlerBounds) (listed : Listed) (flag : Enable) (u w : World) : Type 0 where
   pub found : Fetched
   pub anywhere : fetched_anywhere w.machine.memory w.machine.cpu.pc ≡ Some found
   pub of_image : fetch image.regions (memory_of image.chunks) w.machine.cpu.pc ≡ Some found
@@ -118,8 +118,8 @@ pub record KeepsHandler (image : Located) (main : ℕ) (inner : HandlerBounds) (
   pub pointed : All (GoesToListed image.regions listed.stores.items w.machine.cpu.pc) (pointed_bytes found.instr w.machine.cpu.registers)
   pub writes : All (λ address. in_data image.regions address ≡ true → inner.written address ≡ true) (direct_bytes found.instr ++ pointed_bytes found.instr w.machine.cpu.registers)
   pub returning : returns found.instr w.machine.cpu.registers.flags ≡ true →
-      (target found.instr found.next w.machine.memory w.machine.cpu ≡ u.machine.cpu.pc) ⊎ IsWay image inner.ways w.machine.cpu.pc (target found.instr found.next w.machine.memory w.machine.cpu)
-  pub jumping : found.instr ≡ Pchl → targets_at image.regions w.machine.cpu.pc ≡ None → IsWay image inner.ways w.machine.cpu.pc (hl_of w.machine.cpu.registers)
+      (target found.instr found.next w.machine.memory w.machine.cpu ≡ u.machine.cpu.pc) ⊎ IsWay image (ways_of inner.ways places) w.machine.cpu.pc (target found.instr found.next w.machine.memory w.machine.cpu)
+  pub jumping : found.instr ≡ Pchl → targets_at image.regions w.machine.cpu.pc ≡ None → IsWay image (ways_of inner.ways places) w.machine.cpu.pc (hl_of w.machine.cpu.registers)
   pub declared : found.instr ≡ Pchl → is_declared image.regions w.machine.cpu.pc ≡ true →
       Contains (declared_targets image.regions w.machine.cpu.pc) (hl_of w.machine.cpu.registers) ⊎ Contains listed.jumps.items w.machine.cpu.pc
   pub stack : All (IsOnStack image (main + inner.bytes)) (stack_bytes found.instr w.machine.cpu)
@@ -133,15 +133,15 @@ pub record KeepsHandler (image : Located) (main : ℕ) (inner : HandlerBounds) (
 
 -- what is promised of a world of the program between interrupts: that of one that is interrupted; and an interrupt that a handler answers pushes its two
 -- bytes onto STACK, below what the program has on it at most
-pub record KeepsProgram (image : Located) (handlers : List ℕ) (main : ℕ) (inner : HandlerBounds) (ways : List Way) (listed : Listed) (flag : Enable) (w : World) : Type 0 where
+pub record KeepsProgram (image : Located) (handlers : List ℕ) (main : ℕ) (inner : HandlerBounds) (ways : Ways) (listed : Listed) (flag : Enable) (w : World) : Type 0 where
   pub keeps : KeepsFollowed image true main ways listed w
   pub pushes : (place handler : ℕ) → Takes flag w place → Contains handlers handler →
       All (IsOnStack image (main + inner.bytes)) (behind w.machine.cpu.sp 1 ∷ behind w.machine.cpu.sp 2 ∷ [])
 
 -- what is promised of a world: of the program between interrupts, or of the handler that is executed
-abbrev pub KeepsLive : Located → (handlers : List ℕ) → (main : ℕ) → HandlerBounds → List Way → Listed → Enable → Option World → World → Type 0
+abbrev pub KeepsLive : Located → (handlers : List ℕ) → (main : ℕ) → HandlerBounds → Ways → Listed → Enable → Option World → World → Type 0
 KeepsLive image handlers main inner ways listed flag None w = KeepsProgram image handlers main inner ways listed flag w
-KeepsLive image handlers main inner ways listed flag (Some u) w = KeepsHandler image main inner listed flag u w
+KeepsLive image handlers main inner ways listed flag (Some u) w = KeepsHandler image ways.places main inner listed flag u w
 
 -- the ways of handlers' tables
 abbrev pub handler_ways : List Handler → List Way
@@ -157,12 +157,12 @@ abbrev pub PromiseOfLive : Located → (quiet : ℕ → Bool) → (is_set : Bool
 PromiseOfLive image quiet is_set handlers places ways listed main inner = (start : Machine) → start.cpu.pc ≡ image.start → length start.memory ≡ 65536 → HasCode image start.memory → HoldsBytes start →
     (is_set ≡ true → start.cpu.sp ≡ top_of image.regions) → (w : World) (set : Bool) (flag : Enable) (under : Option World) →
     OnLiveBoard image.regions quiet handlers (IsLeftOpenAt listed) start is_set set flag under w →
-    Contains places w.machine.cpu.pc × KeepsLive image handlers main inner ways listed flag under w
+    Contains places w.machine.cpu.pc × KeepsLive image handlers main inner (ways_of ways places) listed flag under w
 
 -- a program that a table follows, with handlers that tables follow, keeps that promise if there is room for both, and handlers write no quiet data
 abbrev pub LiveMachinesKeepThePromise : Type 0
 LiveMachinesKeepThePromise = (image : Located) (quiet : ℕ → Bool) (is_set : Bool) (handlers places : List ℕ) (ways : List Way) (listed : Listed) (table : List FollowedState) (main : ℕ) (inner : HandlerBounds) → AreRegions image.regions →
     ((at : ℕ) → quiet at ≡ true → in_data image.regions at ≡ true) → ((at : ℕ) → quiet at ≡ true → inner.written at ≡ false) →
-    (fits : Follows image true quiet is_set ways listed table main) → ((at : ℕ) → Contains (places_among table fits.summaries) at → Contains places at) →
+    (fits : Follows image true quiet is_set (ways_of ways places) listed table main) → ((at : ℕ) → Contains (places_among table fits.summaries) at → Contains places at) →
     ((handler : ℕ) → Contains handlers handler → HandlesAmong image table inner.written quiet inner.ways places listed inner.bytes handler) →
     main + inner.bytes ≤ image.regions.stack.length → PromiseOfLive image quiet is_set handlers places ways listed main inner

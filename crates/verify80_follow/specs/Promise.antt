@@ -12,7 +12,7 @@ use Rattle.verify80_states.specs.{Bytes.HoldsBytes, Known.HoldsKnown, QuietBoard
 use Rattle.verify80_stores.specs.{declared.stores.OpenStore.OpenStore, Boards.IsListedAt}
 use Rattle.verify80_follow.specs.declared.{followed.FollowedState.FollowedState, followed.Listed.Listed, followed.Way.Way}
 use Rattle.verify80_follow.specs.{Held.Entry, Held.HoldsBeside, Held.count_of, InterruptedBoards.OnInterruptedBoard, Stack.HoldsStack}
-use Rattle.verify80_follow.specs.{Stack.bounds_of, Stack.pointer_at, Follows.Follows, Follows.IsWay, Follows.places_among, Follows.stack_of}
+use Rattle.verify80_follow.specs.{Stack.bounds_of, Stack.pointer_at, Follows.Follows, Follows.IsWay, Follows.Ways, Follows.places_among, Follows.stack_of, Follows.ways_of}
 
 -- a store is listed at an address, or a PCHL is
 abbrev pub IsLeftOpenAt : Listed → ℕ → Type 0
@@ -32,7 +32,7 @@ pub record IsOnStack (image : Located) (bytes address : ℕ) : Type 0 where
 -- targets is listed, or goes to one of them; as stack it touches only bytes of STACK, a given number just below its top; if it is EI of a program that
 -- isn't interrupted, the byte behind it is a HLT in the code; and unless it is HLT, the run goes on, whatever byte comes in, if it stays inside where
 -- it is listed
-pub record KeepsFollowed (image : Located) (interrupted : Bool) (bytes : ℕ) (ways : List Way) (listed : Listed) (w : World) : Type 0 where
+pub record KeepsFollowed (image : Located) (interrupted : Bool) (bytes : ℕ) (ways : Ways) (listed : Listed) (w : World) : Type 0 where
   pub found : Fetched
   pub anywhere : fetched_anywhere w.machine.memory w.machine.cpu.pc ≡ Some found
   pub of_image : fetch image.regions (memory_of image.chunks) w.machine.cpu.pc ≡ Some found
@@ -77,14 +77,14 @@ pub record KnowsWorld (image : Located) (interrupted : Bool) (entry : Entry) (ta
 abbrev pub PromiseOfFollowed : Located → (quiet : ℕ → Bool) → (is_set : Bool) → (places : List ℕ) → List Way → Listed → (bytes : ℕ) → Type 0
 PromiseOfFollowed image quiet is_set places ways listed bytes = (start : Machine) → start.cpu.pc ≡ image.start → length start.memory ≡ 65536 → HasCode image start.memory → HoldsBytes start →
     (is_set ≡ true → start.cpu.sp ≡ top_of image.regions) → (w : World) (set : Bool) → OnQuietBoard image.regions quiet (IsLeftOpenAt listed) start is_set set w →
-    Contains places w.machine.cpu.pc × KeepsFollowed image false bytes ways listed w
+    Contains places w.machine.cpu.pc × KeepsFollowed image false bytes (ways_of ways places) listed w
 
 -- The same on every board on which it is interrupted by what gives back SP, registers, flags and what is pushed, and stores to data that isn't quiet:
 -- the run goes on behind a HLT if interrupts may come, and wherever they may, SP is set, and no deeper than the stack's bound.
 abbrev pub PromiseOfInterrupted : Located → (quiet : ℕ → Bool) → (is_set : Bool) → (places : List ℕ) → List Way → Listed → (bytes : ℕ) → Type 0
 PromiseOfInterrupted image quiet is_set places ways listed bytes = (start : Machine) → start.cpu.pc ≡ image.start → length start.memory ≡ 65536 → HasCode image start.memory → HoldsBytes start →
     (is_set ≡ true → start.cpu.sp ≡ top_of image.regions) → (w : World) (set enabled : Bool) → OnInterruptedBoard image.regions quiet (IsLeftOpenAt listed) start is_set set enabled w →
-    Contains places w.machine.cpu.pc × (KeepsFollowed image true bytes ways listed w × (enabled ≡ true → IsReady image bytes set w))
+    Contains places w.machine.cpu.pc × (KeepsFollowed image true bytes (ways_of ways places) listed w × (enabled ≡ true → IsReady image bytes set w))
 
 -- what is promised of a program that is interrupted, or isn't
 abbrev pub PromiseOf : (interrupted : Bool) → Located → (quiet : ℕ → Bool) → (is_set : Bool) → (places : List ℕ) → List Way → Listed → (bytes : ℕ) → Type 0
@@ -92,6 +92,7 @@ PromiseOf false image quiet is_set places ways listed bytes = PromiseOfFollowed 
 PromiseOf true image quiet is_set places ways listed bytes = PromiseOfInterrupted image quiet is_set places ways listed bytes
 
 abbrev pub FollowedProgramsKeepThePromise : Type 0
-FollowedProgramsKeepThePromise = (interrupted : Bool) (image : Located) (quiet : ℕ → Bool) (is_set : Bool) (ways : List Way) (listed : Listed) (table : List FollowedState) (bytes : ℕ) → AreRegions image.regions →
-    ((at : ℕ) → quiet at ≡ true → in_data image.regions at ≡ true) → (fits : Follows image interrupted quiet is_set ways listed table bytes) → bytes ≤ image.regions.stack.length →
-    PromiseOf interrupted image quiet is_set (places_among table fits.summaries) ways listed bytes
+FollowedProgramsKeepThePromise = (interrupted : Bool) (image : Located) (quiet : ℕ → Bool) (is_set : Bool) (places : List ℕ) (ways : List Way) (listed : Listed) (table : List FollowedState) (bytes : ℕ) → AreRegions image.regions →
+    ((at : ℕ) → quiet at ≡ true → in_data image.regions at ≡ true) → (fits : Follows image interrupted quiet is_set (ways_of ways places) listed table bytes) →
+    ((at : ℕ) → Contains (places_among table fits.summaries) at → Contains places at) → bytes ≤ image.regions.stack.length →
+    PromiseOf interrupted image quiet is_set places ways listed bytes

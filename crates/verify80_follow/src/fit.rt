@@ -6,7 +6,7 @@ ghost use Rattle.image80.specs.{Image.memory_of, Regions.AreRegions, Regions.in_
 ghost use Rattle.verify80_spans.specs.Span.{Within, ByteWithin, IsInside, byte_alone};
 ghost use Rattle.verify80_states.specs.{Known.IsKnownInside, Known.IsQuietKnown, Known.cut, Known.nothing_known, Following.known_after, Marks.is_marked, QuietBoards.is_quiet, Steps.AreCodeBytes};
 ghost use Rattle.verify80_follow.specs.Follows.{Covers, CoversStack, CoversThen, Follows, FollowsBy, Has, IsBehindCall, IsWay};
-ghost use Rattle.verify80_follow.specs.Follows.{JumpsBy, IsExecuted, IsShownOrListed, JumpsByNumber, LeadsIf, LeadsTo, LeavesHalt};
+ghost use Rattle.verify80_follow.specs.Follows.{JumpsBy, IsExecuted, IsShownOrListed, JumpsByNumber, LeadsIf, LeadsTo, LeavesHalt, ways_of};
 ghost use Rattle.verify80_follow.specs.Follows.{ReturnsLeft, ReturnsTo, StateFollows, first_stack, is_call, stack_of};
 ghost use Rattle.verify80_follow.specs.Held.{IsBesideInside, beside_then, nothing_beside};
 ghost use Rattle.verify80_follow.specs.{Fitting.IsFit, Promise.PromiseOf, Reaching.places_of};
@@ -19,6 +19,7 @@ use crate::calls::Summary;
 use crate::followed::{FollowedState, Listed, RunKind, Way};
 use crate::held::{Beside, beside_then};
 use crate::laws::followed_programs_keep_the_promise;
+use crate::reaching::places_of;
 use crate::stack::{
     StackAfter, StackBounds, is_stack_inside, return_address, stack_then, top_of_stack,
 };
@@ -38,7 +39,7 @@ pub struct Table {
     pub states: Vec<FollowedState>,
     /// The places of the table that the ways on from each state lead to; or, from `APART` on, where those for each byte of A begin.
     pub hints: Vec<u32>,
-    /// Where returns, and PCHLs without declared targets, go beside the addresses behind calls.
+    /// Where returns, and PCHLs without declared targets, go beside the addresses behind calls at which states stand.
     pub ways: Vec<Way>,
     /// The stores and jumps that the states leave open.
     pub listed: Listed,
@@ -54,6 +55,10 @@ pub(crate) struct Fit<'a> {
     pub table: &'a [FollowedState],
     pub hints: &'a [u32],
     pub ways: &'a [Way],
+    /// Where states stand behind whose calls a return may go.
+    pub places: &'a [u16],
+    /// By address the number of its place: 65,536 entries, of which those of other addresses count for nothing.
+    pub numbers: &'a [u32],
     pub listed: &'a Listed,
     /// The summaries of procedures.
     pub summaries: &'a [Summary],
@@ -234,7 +239,7 @@ impl Fit<'_> {
         way: Onward,
         known: Known,
     ) -> Result<bool, AllocError>
-        ensures { IfOk result (λ covers. covers ≡ true → CoversThen self.now.program.now self.now.bounds self.now.interrupted self.now.code.now self.now.ways.now self.now.table.now self.now.bytes here.entry.state.now here.entry.found way.taken way.to known) }
+        ensures { IfOk result (λ covers. covers ≡ true → CoversThen self.now.program.now self.now.bounds self.now.interrupted self.now.code.now (ways_of self.now.ways.now self.now.places.now) self.now.table.now self.now.bytes here.entry.state.now here.entry.found way.taken way.to known) }
     {
         let Standing { state, found } = here;
         let bounds = self.bounds;
@@ -280,7 +285,7 @@ impl Fit<'_> {
         way: Onward,
         left: Option<Known>,
     ) -> Result<bool, AllocError>
-        ensures { IfOk result (λ leads. leads ≡ true → LeadsTo self.now.program.now self.now.bounds self.now.interrupted self.now.code.now self.now.ways.now self.now.table.now self.now.bytes here.entry.state.now here.entry.found way.taken way.to left) }
+        ensures { IfOk result (λ leads. leads ≡ true → LeadsTo self.now.program.now self.now.bounds self.now.interrupted self.now.code.now (ways_of self.now.ways.now self.now.places.now) self.now.table.now self.now.bytes here.entry.state.now here.entry.found way.taken way.to left) }
     {
         match left {
             None => Ok(true),
@@ -296,7 +301,7 @@ impl Fit<'_> {
         condition: Condition,
         to: u16,
     ) -> Result<bool, AllocError>
-        ensures { IfOk result (λ leads. leads ≡ true → LeadsIf self.now.program.now self.now.bounds self.now.interrupted self.now.code.now self.now.ways.now self.now.table.now self.now.bytes here.entry.state.now here.entry.found condition to) }
+        ensures { IfOk result (λ leads. leads ≡ true → LeadsIf self.now.program.now self.now.bounds self.now.interrupted self.now.code.now (ways_of self.now.ways.now self.now.places.now) self.now.table.now self.now.bytes here.entry.state.now here.entry.found condition to) }
     {
         let known = here.state.known;
         let taken = self.leads_to(alloc, here, here.taken(to), given(condition, true, known))?;
@@ -306,19 +311,35 @@ impl Fit<'_> {
         self.leads_to(alloc, here, here.passed(1), given(condition, false, known))
     }
 
-    /// Whether the code has a call at an address that returns to another.
-    fn has_call_at(&self, at: u16, to: u16) -> bool
-        ensures { result ≡ true → IsBehindCall self.now.program.now to }
+    /// Whether an address is one of the places.
+    fn is_place(&self, at: u16) -> bool
+        ensures { result ≡ true → Contains self.now.places.now at }
     {
+        let Some(number) = self.numbers.get(usize::from(at)) else {
+            return false;
+        };
+        match self.places.get(*number as usize) {
+            Some(place) => *place == at,
+            None => false,
+        }
+    }
+
+    /// Whether the code has a call at an address that returns to another, and a state stands there.
+    fn has_call_at(&self, at: u16, to: u16) -> bool
+        ensures { result ≡ true → IsBehindCall self.now.program.now self.now.places.now to }
+    {
+        if !self.is_place(at) {
+            return false;
+        }
         match fetch(at, self.program) {
             Ok(found) => found.next == to && is_call(found.instr.flow()),
             Err(_) => false,
         }
     }
 
-    /// Whether a return or PCHL at an address may go to another: there is a call before that, or a hint names the way.
+    /// Whether a return or PCHL at an address may go to another: a state stands at a call before that, or a hint names the way.
     fn is_way(&self, hint: u32, at: u16, to: u16) -> bool
-        ensures { result ≡ true → IsWay self.now.program.now self.now.ways.now at to }
+        ensures { result ≡ true → IsWay self.now.program.now (ways_of self.now.ways.now self.now.places.now) at to }
     {
         self.has_call_at(behind(to, 3), to)
             || self.has_call_at(behind(to, 1), to)
@@ -345,7 +366,7 @@ impl Fit<'_> {
         here: Standing<'_>,
         left: Option<Known>,
     ) -> Result<bool, AllocError>
-        ensures { IfOk result (λ returns. returns ≡ true → ReturnsLeft self.now.program.now self.now.bounds self.now.interrupted self.now.code.now self.now.ways.now self.now.table.now self.now.bytes here.entry.state.now here.entry.found left) }
+        ensures { IfOk result (λ returns. returns ≡ true → ReturnsLeft self.now.program.now self.now.bounds self.now.interrupted self.now.code.now (ways_of self.now.ways.now self.now.places.now) self.now.table.now self.now.bytes here.entry.state.now here.entry.found left) }
     {
         let Some(known) = left else {
             return Ok(true);
@@ -361,7 +382,7 @@ impl Fit<'_> {
 
     /// Whether a PCHL without declared targets goes where HL is known to be, may go there, and the state is covered there.
     fn jumps_by_number(&self, alloc: Global, here: Standing<'_>) -> Result<bool, AllocError>
-        ensures { IfOk result (λ jumps. jumps ≡ true → JumpsByNumber self.now.program.now self.now.bounds self.now.interrupted self.now.code.now self.now.ways.now self.now.table.now self.now.bytes here.entry.state.now here.entry.found) }
+        ensures { IfOk result (λ jumps. jumps ≡ true → JumpsByNumber self.now.program.now self.now.bounds self.now.interrupted self.now.code.now (ways_of self.now.ways.now self.now.places.now) self.now.table.now self.now.bytes here.entry.state.now here.entry.found) }
     {
         let state = here.state;
         let words = state.known.hl.words;
@@ -373,7 +394,7 @@ impl Fit<'_> {
 
     /// Whether a PCHL is covered at each of its declared targets that HL may be.
     fn jumps_to_each(&self, alloc: Global, here: Standing<'_>) -> Result<bool, AllocError>
-        ensures { IfOk result (λ jumps. jumps ≡ true → JumpsBy self.now.program.now self.now.bounds self.now.interrupted self.now.code.now self.now.ways.now self.now.table.now self.now.bytes here.entry.state.now here.entry.found true) }
+        ensures { IfOk result (λ jumps. jumps ≡ true → JumpsBy self.now.program.now self.now.bounds self.now.interrupted self.now.code.now (ways_of self.now.ways.now self.now.places.now) self.now.table.now self.now.bytes here.entry.state.now here.entry.found true) }
     {
         let targets = self.program.targets(here.state.at);
         for place in 0..targets.len() {
@@ -392,7 +413,7 @@ impl Fit<'_> {
         place: usize,
         to: u16,
     ) -> Result<bool, AllocError>
-        ensures { IfOk result (λ covers. covers ≡ true → Within here.entry.state.now.known.hl.words to → CoversThen self.now.program.now self.now.bounds self.now.interrupted self.now.code.now self.now.ways.now self.now.table.now self.now.bytes here.entry.state.now here.entry.found false to here.entry.state.now.known) }
+        ensures { IfOk result (λ covers. covers ≡ true → Within here.entry.state.now.known.hl.words to → CoversThen self.now.program.now self.now.bounds self.now.interrupted self.now.code.now (ways_of self.now.ways.now self.now.places.now) self.now.table.now self.now.bytes here.entry.state.now here.entry.found false to here.entry.state.now.known) }
     {
         let known = here.state.known;
         let words = known.hl.words;
@@ -410,7 +431,7 @@ impl Fit<'_> {
         by_targets: bool,
     ) -> Result<bool, AllocError>
         requires declared { flow here.found.instr ≡ JumpsToHl → is_declared self.now.program.now.regions here.state.now.at ≡ by_targets }
-        ensures { IfOk result (λ follows. follows ≡ true → FollowsBy self.now.program.now self.now.bounds self.now.interrupted self.now.code.now self.now.ways.now self.now.table.now self.now.bytes here.entry.state.now here.entry.found (flow here.entry.found.instr)) }
+        ensures { IfOk result (λ follows. follows ≡ true → FollowsBy self.now.program.now self.now.bounds self.now.interrupted self.now.code.now (ways_of self.now.ways.now self.now.places.now) self.now.table.now self.now.bytes here.entry.state.now here.entry.found (flow here.entry.found.instr)) }
     {
         let known = here.state.known;
         match here.found.instr.flow() {
@@ -437,7 +458,7 @@ impl Fit<'_> {
 
     /// Whether a HLT is covered behind it as it is come to, if the program is interrupted and interrupts may come.
     fn leaves_halt(&self, here: Standing<'_>) -> bool
-        ensures { result ≡ true → LeavesHalt self.now.program.now self.now.bounds self.now.interrupted self.now.code.now self.now.ways.now self.now.table.now self.now.bytes here.entry.state.now here.entry.found }
+        ensures { result ≡ true → LeavesHalt self.now.program.now self.now.bounds self.now.interrupted self.now.code.now (ways_of self.now.ways.now self.now.places.now) self.now.table.now self.now.bytes here.entry.state.now here.entry.found }
     {
         let Standing { state, found } = here;
         !self.interrupted
@@ -557,7 +578,7 @@ impl Fit<'_> {
     ) -> Result<bool, AllocError>
         requires regions { self.now.regions.now ≡ self.now.program.now.regions }
         requires ends { AreDataEnds self.now.regions.now self.now.ends.now }
-        ensures { IfOk result (λ follows. follows ≡ true → StateFollows self.now.program.now self.now.bounds self.now.interrupted (is_marked self.now.quiet.now) self.now.code.now self.now.ways.now self.now.listed.now self.now.table.now self.now.bytes state.now) }
+        ensures { IfOk result (λ follows. follows ≡ true → StateFollows self.now.program.now self.now.bounds self.now.interrupted (is_marked self.now.quiet.now) self.now.code.now (ways_of self.now.ways.now self.now.places.now) self.now.listed.now self.now.table.now self.now.bytes state.now) }
     {
         let Some(executed) = self.executed(state.at) else {
             return Ok(false);
@@ -614,7 +635,7 @@ pub fn follows(
 ) -> Result<bool, AllocError>
     ensures promise { IfOk result (λ follows. follows ≡ true →
         PromiseOf run.interrupted image.now (is_quiet image.now.regions quiet.now) run.is_set (places_of table.now []) table.now.ways.items table.now.listed table.now.bytes) }
-    ensures fit { IfOk result (λ follows. follows ≡ true → IsFit image.now run.interrupted (is_quiet image.now.regions quiet.now) run.is_set table.now) }
+    ensures fit { IfOk result (λ follows. follows ≡ true → IsFit image.now run.interrupted (is_quiet image.now.regions quiet.now) run.is_set table.now []) }
 {
     image.regions.stack();
     let code = code_bytes(alloc, image)?;
@@ -636,32 +657,49 @@ fn follows_marked(
     requires quiet { (at : ℕ) → is_marked quiet.now at ≡ true → in_data image.now.regions at ≡ true }
     ensures promise { IfOk result (λ follows. follows ≡ true → PromiseOf run.interrupted image.now (is_marked quiet.now) run.is_set (places_of table.now [])
         table.now.ways.items table.now.listed table.now.bytes) }
-    ensures fit { IfOk result (λ follows. follows ≡ true → IsFit image.now run.interrupted (is_marked quiet.now) run.is_set table.now) }
+    ensures fit { IfOk result (λ follows. follows ≡ true → IsFit image.now run.interrupted (is_marked quiet.now) run.is_set table.now []) }
 {
     followed_programs_keep_the_promise();
-    fits(alloc, image, table, code, quiet, run)
+    let places = places_of(alloc, table, &[])?;
+    fits(alloc, image, table, &places, code, quiet, run)
 }
 
-/// Whether each state of a table fits an image, one of them at its start, and there is room for its stack.
+/// By address the number of a place there, if there is one: 65,536 entries.
+pub(crate) fn number_places(alloc: Global, places: &[u16]) -> Result<Vec<u32>, AllocError> {
+    let mut numbers = vec![in alloc; 0; 65_536]?;
+    for (number, place) in places.iter().enumerate() {
+        if let Some(entry) = numbers.get_mut(usize::from(*place)) {
+            *entry = u32::try_from(number).unwrap_or(u32::MAX);
+        }
+    }
+    Ok(numbers)
+}
+
+/// Whether each state of a table fits an image, one of them at its start, and there is room for its stack; `places` are those behind whose calls
+/// returns may go.
 pub(crate) fn fits(
     alloc: Global,
     image: &Image,
     table: &Table,
+    places: &[u16],
     code: &[Option<u8>],
     quiet: &[bool],
     run: RunKind,
 ) -> Result<bool, AllocError>
     requires code { AreCodeBytes image.now code.now }
     ensures fits { IfOk result (λ fits. fits ≡ true →
-        (follows : Follows image.now run.interrupted (is_marked quiet.now) run.is_set table.now.ways.items table.now.listed table.now.states.items table.now.bytes)
+        (follows : Follows image.now run.interrupted (is_marked quiet.now) run.is_set (ways_of table.now.ways.items places.now) table.now.listed table.now.states.items table.now.bytes)
         × ((follows.summaries ≡ table.now.summaries.items) × (table.now.bytes ≤ image.now.regions.stack.length))) }
 {
     let program = ImageCode::new(alloc, image)?;
     let ends = find_data_ends(alloc, &image.regions)?;
+    let numbers = number_places(alloc, places)?;
     let fit = Fit {
         table: &table.states,
         hints: &table.hints,
         ways: &table.ways,
+        places,
+        numbers: &numbers,
         listed: &table.listed,
         summaries: &table.summaries,
         bytes: table.bytes,

@@ -6,17 +6,18 @@ ghost use Rattle.image80.specs.Regions.{AreRegions, in_data};
 ghost use Rattle.verify80_spans.specs.Span.{Within};
 ghost use Rattle.verify80_states.specs.{Known.IsKnownInside, Known.nothing_known, Marks.is_marked, QuietBoards.is_quiet, Steps.AreCodeBytes};
 ghost use Rattle.verify80_stores.specs.{DataReach.AreDataEnds, Opening.pointer_span};
-ghost use Rattle.verify80_follow.specs.Follows.{Has, stack_of, uses_pointer, entered_stack};
+ghost use Rattle.verify80_follow.specs.Follows.{Has, stack_of, uses_pointer, entered_stack, ways_of};
 ghost use Rattle.verify80_follow.specs.Held.{IsBesideInside, count_of, nothing_beside};
 ghost use Rattle.verify80_follow.specs.Handling.{BeginsAnew, GivesBack, Handles, IsHandled, IsReturn, entered_beside};
 ghost use Rattle.verify80_follow.specs.{Fitting.AreFit, Live.PromiseOfLive, Live.handler_bounds, Live.handler_ways, Reaching.places_of};
 ghost use Rattle.verify80_follow.specs.Stack.{IsStackInside};
 ghost use Rattle.verify80_follow.specs.Writes.{AreWriteEnds, MayBeWritten};
 
-use crate::fit::{Fit, Table, fits, says_no_more};
+use crate::fit::{Fit, Table, fits, number_places, says_no_more};
 use crate::followed::{FollowedState, Listed, RunKind};
 use crate::held::{Beside, count_of};
 use crate::laws::live_machines_keep_the_promise;
+use crate::reaching::places_of;
 use crate::stack::StackBounds;
 use crate::writes::{Writes, find_write_ends};
 use decode80::{Fetched, Instr, Pair, fetch};
@@ -109,7 +110,7 @@ impl Fit<'_> {
         requires interrupted { self.now.interrupted ≡ true }
         requires anew { (at : ℕ) → is_marked around.anew.now at ≡ true → Has around.main.now at nothing_known nothing_beside (Some []) }
         requires writes { AreWriteEnds around.writes.regions.now around.writes.marks.now around.writes.ends.now }
-        ensures { IfOk result (λ handles. handles ≡ true → Handles self.now.program.now around.entry.main.now (is_marked around.entry.writes.marks.now) self.now.bounds (is_marked self.now.quiet.now) self.now.code.now self.now.ways.now self.now.listed.now self.now.table.now self.now.bytes state.now) }
+        ensures { IfOk result (λ handles. handles ≡ true → Handles self.now.program.now around.entry.main.now (is_marked around.entry.writes.marks.now) self.now.bounds (is_marked self.now.quiet.now) self.now.code.now (ways_of self.now.ways.now self.now.places.now) self.now.listed.now self.now.table.now self.now.bytes state.now) }
     {
         let Some(executed) = self.executed(state.at) else {
             return Ok(false);
@@ -139,7 +140,7 @@ impl Fit<'_> {
         requires interrupted { self.now.interrupted ≡ true }
         requires anew { (at : ℕ) → is_marked around.anew.now at ≡ true → Has around.main.now at nothing_known nothing_beside (Some []) }
         requires writes { AreWriteEnds around.writes.regions.now around.writes.marks.now around.writes.ends.now }
-        ensures { IfOk result (λ handle. handle ≡ true → All (λ s. Handles self.now.program.now around.entry.main.now (is_marked around.entry.writes.marks.now) self.now.bounds (is_marked self.now.quiet.now) self.now.code.now self.now.ways.now self.now.listed.now self.now.table.now self.now.bytes s) self.now.table.now) }
+        ensures { IfOk result (λ handle. handle ≡ true → All (λ s. Handles self.now.program.now around.entry.main.now (is_marked around.entry.writes.marks.now) self.now.bounds (is_marked self.now.quiet.now) self.now.code.now (ways_of self.now.ways.now self.now.places.now) self.now.listed.now self.now.table.now self.now.bytes s) self.now.table.now) }
     {
         for place in 0..self.table.len() {
             if !self.handles_state(alloc, &self.table[place], around)? {
@@ -272,13 +273,14 @@ fn follows_live_marked(
         is_set,
         interrupted: true,
     };
+    let places = places_of(alloc, table, handlers)?;
     if !has_room_for(image, table.bytes, most)
         || !are_apart(looked.quiet, looked.written)
-        || !fits(alloc, image, table, looked.code, looked.quiet, run)?
+        || !fits(alloc, image, table, &places, looked.code, looked.quiet, run)?
     {
         return Ok(false);
     }
-    are_all_handled(alloc, image, table, handlers, looked, most)
+    are_all_handled(alloc, image, table, handlers, &places, looked, most)
 }
 
 /// Whether an image's stack has room for a number of bytes, and others below them.
@@ -334,17 +336,18 @@ fn note_anew(marks: &mut Vec<bool>, states: &[FollowedState], place: usize)
     }
 }
 
-/// Whether each handler's table follows it, beside the program's table.
+/// Whether each handler's table follows it, beside the program's table; `places` are those behind whose calls returns may go.
 fn are_all_handled<'a>(
     alloc: Global,
     image: &'a Image,
     table: &'a Table,
     handlers: &[Handler],
+    places: &[u16],
     looked: Looked<'a>,
     most: u16,
 ) -> Result<bool, AllocError>
     requires code { AreCodeBytes image.now looked.code.now }
-    ensures { IfOk result (λ handled. handled ≡ true → All (IsHandled image.now table.now.states.items (is_marked looked.entry.written.now) (is_marked looked.entry.quiet.now) table.now.listed most) handlers.now) }
+    ensures { IfOk result (λ handled. handled ≡ true → All (IsHandled image.now table.now.states.items (is_marked looked.entry.written.now) (is_marked looked.entry.quiet.now) places.now table.now.listed most) handlers.now) }
 {
     let anew = mark_anew(alloc, &table.states)?;
     let ends = find_write_ends(alloc, &image.regions, looked.written)?;
@@ -357,7 +360,16 @@ fn are_all_handled<'a>(
             ends: &ends,
         },
     };
-    are_handled(alloc, image, handlers, &table.listed, looked, around, most)
+    are_handled(
+        alloc,
+        image,
+        handlers,
+        places,
+        &table.listed,
+        looked,
+        around,
+        most,
+    )
 }
 
 /// Whether each handler's table follows it.
@@ -365,6 +377,7 @@ fn are_handled(
     alloc: Global,
     image: &Image,
     handlers: &[Handler],
+    places: &[u16],
     listed: &Listed,
     looked: Looked<'_>,
     around: Around<'_>,
@@ -374,10 +387,19 @@ fn are_handled(
     requires written { around.writes.regions.now ≡ image.now.regions }
     requires anew { (at : ℕ) → is_marked around.anew.now at ≡ true → Has around.main.now at nothing_known nothing_beside (Some []) }
     requires writes { AreWriteEnds around.writes.regions.now around.writes.marks.now around.writes.ends.now }
-    ensures { IfOk result (λ handled. handled ≡ true → All (IsHandled image.now around.entry.main.now (is_marked around.entry.writes.marks.now) (is_marked looked.entry.quiet.now) listed.now most) handlers.now) }
+    ensures { IfOk result (λ handled. handled ≡ true → All (IsHandled image.now around.entry.main.now (is_marked around.entry.writes.marks.now) (is_marked looked.entry.quiet.now) places.now listed.now most) handlers.now) }
 {
     for place in 0..handlers.len() {
-        if !is_handled(alloc, image, &handlers[place], listed, looked, around, most)? {
+        if !is_handled(
+            alloc,
+            image,
+            &handlers[place],
+            places,
+            listed,
+            looked,
+            around,
+            most,
+        )? {
             return Ok(false);
         }
     }
@@ -389,6 +411,7 @@ fn is_handled(
     alloc: Global,
     image: &Image,
     handler: &Handler,
+    places: &[u16],
     listed: &Listed,
     looked: Looked<'_>,
     around: Around<'_>,
@@ -398,15 +421,18 @@ fn is_handled(
     requires written { around.writes.regions.now ≡ image.now.regions }
     requires anew { (at : ℕ) → is_marked around.anew.now at ≡ true → Has around.main.now at nothing_known nothing_beside (Some []) }
     requires writes { AreWriteEnds around.writes.regions.now around.writes.marks.now around.writes.ends.now }
-    ensures { IfOk result (λ handled. handled ≡ true → IsHandled image.now around.entry.main.now (is_marked around.entry.writes.marks.now) (is_marked looked.entry.quiet.now) listed.now most handler.now) }
+    ensures { IfOk result (λ handled. handled ≡ true → IsHandled image.now around.entry.main.now (is_marked around.entry.writes.marks.now) (is_marked looked.entry.quiet.now) places.now listed.now most handler.now) }
 {
     let program = ImageCode::new(alloc, image)?;
     let ends = find_data_ends(alloc, &image.regions)?;
+    let numbers = number_places(alloc, places)?;
     let table = &handler.table;
     let fit = Fit {
         table: &table.states,
         hints: &table.hints,
         ways: &table.ways,
+        places,
+        numbers: &numbers,
         listed,
         summaries: &table.summaries,
         bytes: table.bytes,

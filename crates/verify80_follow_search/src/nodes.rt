@@ -5,7 +5,7 @@ use crate::growing::{grow, is_inside};
 use crate::marks::{count_bytes, sum_of};
 use crate::stop::{StopReason, Unfollowed};
 use std::alloc::{AllocError, Global};
-use std::collections::HashMap;
+use std::collections::{BTreeSet, HashMap};
 use verify80_follow::FollowedState;
 
 /// The place of no state.
@@ -40,6 +40,8 @@ pub(crate) struct Nodes {
     /// The place of each, by the sum of what tells it apart.
     by_sum: HashMap<u64, u32>,
     waiting: Vec<u32>,
+    /// Where they stand.
+    pub addresses: BTreeSet<u16>,
     /// How many bytes they have all together.
     bytes: usize,
     /// How many states there may be.
@@ -54,6 +56,7 @@ impl Nodes {
             notes: Vec::new(alloc),
             by_sum: HashMap::new(alloc),
             waiting: Vec::new(alloc),
+            addresses: BTreeSet::new(alloc),
             bytes: 0,
             most,
         }
@@ -98,6 +101,7 @@ impl Nodes {
         let place = place_of(self.states.len());
         self.by_sum.insert(sum, place)?;
         self.waiting.push(place)?;
+        self.addresses.insert(state.at)?;
         self.states.push(state)?;
         self.notes.push(Note {
             marks,

@@ -4,7 +4,7 @@ use crate::handlers::sets_top;
 use crate::marks::{AT_SP, count_bytes};
 use crate::start::Start;
 use crate::stop::StopReason;
-use decode80::{Fetched, Flow, Instr, ahead, behind, direct_bytes, fetch};
+use decode80::{Fetched, Flow, Instr, ahead, direct_bytes, fetch};
 use frames80::{Code, LookFault};
 use verify80::ImageCode;
 use verify80_follow::{FollowedState, called, gives_back, is_last, return_address, uses_pointer};
@@ -132,15 +132,8 @@ impl FollowedProgram<'_> {
         }
     }
 
-    /// Whether the way from a return, or from a PCHL without declared targets, is to be listed: it goes to no address behind a call.
-    pub fn is_listed(self, at: u16, instr: Instr, to: u16) -> bool {
-        self.goes_by_number(at, instr)
-            && !self.has_call(behind(to, 1), to)
-            && !self.has_call(behind(to, 3), to)
-    }
-
     /// Whether the code has a call at an address that returns to another.
-    fn has_call(self, at: u16, to: u16) -> bool {
+    pub fn has_call(self, at: u16, to: u16) -> bool {
         match fetch(at, self.image) {
             Ok(Fetched { instr, next }) => {
                 next == to && matches!(instr.flow(), Flow::Calls(_) | Flow::CallsIf(_, _))

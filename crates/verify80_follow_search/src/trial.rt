@@ -6,7 +6,7 @@ use crate::marks::count_bytes;
 use crate::nodes::{NOWHERE, Nodes, place_of};
 use crate::program::FollowedProgram;
 use crate::stop::{Stop, StopReason, Unfollowed};
-use decode80::Fetched;
+use decode80::{Fetched, behind};
 use std::alloc::{AllocError, Global};
 use std::collections::BTreeSet;
 use std::mem;
@@ -36,7 +36,7 @@ struct Trial<'a> {
     nodes: Nodes,
     /// The hints of the states that were followed last.
     hints: Vec<u32>,
-    /// The ways that are listed.
+    /// The ways that were behind no call when they were found.
     ways: BTreeSet<Way>,
     /// What is called and wasn't tried.
     untried: BTreeSet<u16>,
@@ -161,9 +161,20 @@ impl Trial<'_> {
         Ok(())
     }
 
+    /// The ways that are listed, once all states are known: those that go behind no call at which a state stands.
+    fn listed_ways(&self) -> Result<Vec<Way>, AllocError> {
+        let mut ways = Vec::new(self.alloc);
+        for way in &self.ways {
+            if !self.is_behind_call(way.to) {
+                ways.push(*way)?;
+            }
+        }
+        Ok(ways)
+    }
+
     /// Follows each state once more for its hints, and answers the table, without what it leaves open.
     fn make_table(&mut self) -> Result<Table, Unfollowed> {
-        let ways = self.ways.iter().copied().collect::<Vec<Way>>(self.alloc)?;
+        let ways = self.listed_ways()?;
         self.hints.clear();
         self.hints.push(0)?;
         for number in 0..self.nodes.states.len() {
@@ -235,17 +246,29 @@ impl Trial<'_> {
         let arrival = self
             .program
             .arrive(self.alloc, state, &note.marks, found, lead)?;
-        if number == 0 && self.program.is_listed(at, found.instr, lead.to) {
+        if number == 0 && self.program.goes_by_number(at, found.instr) {
             let way = Way { at, to: lead.to };
-            self.ways.insert(way)?;
-            self.set_hint(
-                first.saturating_add(1),
-                ways.partition_point(|other| *other < way),
-            );
+            if !self.is_behind_call(way.to) {
+                self.ways.insert(way)?;
+            }
+            let place = ways.partition_point(|other| *other < way);
+            if ways.get(place) == Some(&way) {
+                self.set_hint(first.saturating_add(1), place);
+            }
         }
         let to = self.enter(arrival)?;
         self.set_hint(first.saturating_add(number), to);
         Ok(())
+    }
+
+    /// Whether an address is behind a call at which a state stands.
+    fn is_behind_call(&self, to: u16) -> bool {
+        self.is_call(behind(to, 1), to) || self.is_call(behind(to, 3), to)
+    }
+
+    /// Whether a state stands at a call at an address that returns to another.
+    fn is_call(&self, at: u16, to: u16) -> bool {
+        self.nodes.addresses.contains(&at) && self.program.has_call(at, to)
     }
 
     /// Enters a state, or one for each byte of A. Answers the hint of it, which says where among the hints the places of those begin.

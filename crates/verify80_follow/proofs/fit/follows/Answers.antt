@@ -20,7 +20,7 @@ returns c =
           (λ f. f ≡ true → PromiseOf run.interrupted image quiet run.is_set places table.ways.items table.listed table.bytes)
           (λ f promise is. promise_of_more run.interrupted image marked quiet run.is_set places table.ways.items table.listed table.bytes (λ at marked_here. within at (subst (λ (l : List Bool). is_marked l at ≡ true) c.deref-2.ensures.value marked_here)) (promise is))
           c.follows_marked.ensures.promise;
-      fit = ok_maps c.follows_marked.result (λ f. f ≡ true → IsFit image run.interrupted marked run.is_set table) (λ f. f ≡ true → IsFit image run.interrupted quiet run.is_set table)
-          (λ f fit is. fit_of_more image run.interrupted marked quiet run.is_set table (λ at marked_here. within at (subst (λ (l : List Bool). is_marked l at ≡ true) c.deref-2.ensures.value marked_here)) (fit is))
+      fit = ok_maps c.follows_marked.result (λ f. f ≡ true → IsFit image run.interrupted marked run.is_set table []) (λ f. f ≡ true → IsFit image run.interrupted quiet run.is_set table [])
+          (λ f fit is. fit_of_more image run.interrupted marked quiet run.is_set table [] (λ at marked_here. within at (subst (λ (l : List Bool). is_marked l at ≡ true) c.deref-2.ensures.value marked_here)) (fit is))
           c.follows_marked.ensures.fit;
     }

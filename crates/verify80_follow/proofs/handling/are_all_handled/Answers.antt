@@ -8,5 +8,5 @@ use Rattle.verify80_follow.proofs.handling.are_all_handled.Goals as goal
 pub returns : goal.returns
 returns c =
     let looked = c.args.looked in
-    subst (λ (main : List FollowedState). IfOk c.are_handled.result (λ handled. handled ≡ true → All (IsHandled c.args.image.now main (is_marked looked.written.now) (is_marked looked.quiet.now) c.args.table.now.listed c.args.most) c.args.handlers.now))
+    subst (λ (main : List FollowedState). IfOk c.are_handled.result (λ handled. handled ≡ true → All (IsHandled c.args.image.now main (is_marked looked.written.now) (is_marked looked.quiet.now) c.args.places.now c.args.table.now.listed c.args.most) c.args.handlers.now))
     c.deref-2.ensures.value c.are_handled.ensures

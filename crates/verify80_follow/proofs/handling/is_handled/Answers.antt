@@ -4,7 +4,7 @@ use Rattle.std.proofs.lemmas.Bool.Decides.{nat_tests}
 use Rattle.image80.specs.Image.{Located}
 use Rattle.verify80_states.specs.{Marks.is_marked}
 use Rattle.verify80_follow.specs.declared.{followed.Way.Way}
-use Rattle.verify80_follow.specs.Handling.{Handles, IsHandled}
+use Rattle.verify80_follow.specs.{Follows.ways_of, Handling.Handles, Handling.IsHandled}
 use Rattle.verify80_follow.proofs.FitLemmas.{ok_maps}
 use Rattle.verify80_follow.proofs.handling.is_handled.Goals as goal
 
@@ -19,11 +19,13 @@ returns c =
     let code = c.args.looked.code.now in
     let bytes = handler.table.bytes in
     let states = c.deref.result.now in
+    let places = c.args.places.now in
     let ways = c.deref-3.result.now in
+    let all = ways_of ways places in
     let same : c.in_ok-program.program ≡ image = c.in_ok-program.ensures in
     let within = c.if-table-most.false in
-    ok_maps c.all_handle.result (λ f. f ≡ true → All (λ s. Handles c.in_ok-program.program main written (record { top = c.top.result; length = bytes }) quiet code ways listed states bytes s) states)
-    (λ f. f ≡ true → IsHandled image main written quiet listed c.args.most handler)
+    ok_maps c.all_handle.result (λ f. f ≡ true → All (λ s. Handles c.in_ok-program.program main written (record { top = c.top.result; length = bytes }) quiet code all listed states bytes s) states)
+    (λ f. f ≡ true → IsHandled image main written quiet places listed c.args.most handler)
     (λ f handle is. record {
       of = record {
         table = states;
@@ -34,7 +36,7 @@ returns c =
           code = code;
           are_code = c.requires.code;
           start = c.if-not-has_entry.ensures refl;
-          states = subst (λ (i : Located). All (λ s. Handles i main written (record { top = c.top.result; length = bytes }) quiet code ways listed states bytes s) states) same (handle is);
+          states = subst (λ (i : Located). All (λ s. Handles i main written (record { top = c.top.result; length = bytes }) quiet code all listed states bytes s) states) same (handle is);
         };
         few = omega arith;
         room = omega arith;
