@@ -1,21 +1,24 @@
 -- Refusals in order, each once: those of points, and what a sort and a dedup leave.
-use Rattle.std.proofs.Common.{◌≡◌, ◌<◌, ℕ, suc, Bool, true, List, [], ◌∷◌, refl, sym, ◌∙◌, subst, arith, ◌⊎◌}
+use Rattle.std.proofs.Common.{◌≡◌, ◌<◌, ℕ, ℤ, ap, suc, Bool, true, List, [], ◌∷◌, refl, sym, ◌∙◌, subst, arith, ◌⊎◌}
 use Rattle.std.specs.Prelude.{◌==◌, ◌&&◌, All, Any, Contains, IfSome, IsPermutation, IsSorted, Option, None, Some, nat_eq}
 use Rattle.std.specs.List.{cons_option, dedup, filter_map}
 use Rattle.std.specs.Cmp.{IsEquivalence, IsTotalOrder}
 use Rattle.std.specs.Cmp.Lexicographic.{options_total}
 use Rattle.std.specs.Option.{option_cmp, option_eq}
-use Rattle.std.specs.Ordering.{eq_by_cmp, is_eq, nat_cmp, ordering_then}
-use Rattle.std.proofs.lemmas.Cmp.{eq_by_cmp_equiv, nat_cmp_total, on_total, then_total}
+use Rattle.std.specs.declared.cmp.Ordering.{Ordering}
+use Rattle.std.specs.declared.cmp.Ordering.TheVariants.{Less, Equal, Greater}
+use Rattle.std.specs.Ordering.{eq_by_cmp, int_cmp, int_eq, is_eq, nat_cmp, ordering_then}
+use Rattle.std.proofs.lemmas.Cmp.{eq_by_cmp_equiv, int_cmp_total, nat_cmp_total, on_total, then_total}
 use Rattle.std.proofs.lemmas.List.Elements.{All-cons, All-nil, All-weaker}
 use Rattle.std.proofs.lemmas.List.Filters.{All-dedup}
 use Rattle.std.proofs.lemmas.List.Kept.{Any-dedup, IsStrictlySortedBy-dedup}
 use Rattle.std.proofs.lemmas.List.Sorted.{All-permutation, Contains-permutation}
+use Rattle.frames80.specs.Procedures.{slot_of}
 use Rattle.verify80_flow.specs.declared.refusal.Refusal.{Refusal}
 use Rattle.verify80_flow.specs.Refusal.{refusal_address, refusal_code}
 use Rattle.verify80_explain.specs.declared.reaching.ReachedPoint.{ReachedPoint}
 use Rattle.verify80_explain.specs.declared.explaining_all.ShownRefusal.{ShownRefusal}
-use Rattle.verify80_explain.specs.Order.{AreSame, refusal_cmp, shown_cmp}
+use Rattle.verify80_explain.specs.Order.{AreSame, number_of, point_cmp, refusal_cmp, shown_cmp}
 use Rattle.verify80_explain.specs.Reaching.{AreRefusalsOf, IsListedIn, IsRefusalAmong}
 
 abbrev pub refused : List ReachedPoint → List Refusal
@@ -106,6 +109,47 @@ shown_total = on_total (λ (one : ShownRefusal). one.refusal) refusal_total
 
 pub shown_ties : (one other : ShownRefusal) → is_same_shown one other ≡ eq_by_cmp shown_cmp one other
 shown_ties one other = ties one.refusal other.refusal
+
+-- ---- points
+
+-- whether two points have the same procedure, address, depth and number
+abbrev pub is_same_point : ReachedPoint → ReachedPoint → Bool
+is_same_point one other = nat_eq (slot_of one.standing.procedure) (slot_of other.standing.procedure)
+    && (nat_eq one.standing.at other.standing.at
+    && (int_eq one.standing.depth other.standing.depth
+    && option_eq nat_eq (number_of one) (number_of other)))
+
+both_tie : (r s : Ordering) → (is_eq r && is_eq s) ≡ is_eq (ordering_then r s)
+both_tie Less s = refl
+both_tie Equal s = refl
+both_tie Greater s = refl
+
+options_tie : (a b : Option ℕ) → option_eq nat_eq a b ≡ is_eq (option_cmp nat_cmp a b)
+options_tie None None = refl
+options_tie None (Some y) = refl
+options_tie (Some x) None = refl
+options_tie (Some x) (Some y) = numbers_tie x y
+
+tied : (p q a b : ℕ) (d e : ℤ) (m n : Option ℕ) → (nat_eq p q && (nat_eq a b && (int_eq d e && option_eq nat_eq m n)))
+    ≡ is_eq (ordering_then (nat_cmp p q) (ordering_then (nat_cmp a b) (ordering_then (int_cmp d e) (option_cmp nat_cmp m n))))
+tied p q a b d e m n =
+    ap (λ (t : Bool). t && (nat_eq a b && (int_eq d e && option_eq nat_eq m n))) (numbers_tie p q)
+    ∙ ap (λ (t : Bool). is_eq (nat_cmp p q) && (t && (int_eq d e && option_eq nat_eq m n))) (numbers_tie a b)
+    ∙ ap (λ (t : Bool). is_eq (nat_cmp p q) && (is_eq (nat_cmp a b) && (int_eq d e && t))) (options_tie m n)
+    ∙ ap (λ (t : Bool). is_eq (nat_cmp p q) && (is_eq (nat_cmp a b) && t)) (both_tie (int_cmp d e) (option_cmp nat_cmp m n))
+    ∙ ap (λ (t : Bool). is_eq (nat_cmp p q) && t) (both_tie (nat_cmp a b) (ordering_then (int_cmp d e) (option_cmp nat_cmp m n)))
+    ∙ both_tie (nat_cmp p q) (ordering_then (nat_cmp a b) (ordering_then (int_cmp d e) (option_cmp nat_cmp m n)))
+
+pub point_ties : (one other : ReachedPoint) → is_same_point one other ≡ eq_by_cmp point_cmp one other
+point_ties one other = tied (slot_of one.standing.procedure) (slot_of other.standing.procedure) one.standing.at other.standing.at
+    one.standing.depth other.standing.depth (number_of one) (number_of other)
+
+pub point_total : IsTotalOrder point_cmp
+point_total =
+    then_total (on_total (λ (p : ReachedPoint). slot_of p.standing.procedure) nat_cmp_total)
+    (then_total (on_total (λ (p : ReachedPoint). p.standing.at) nat_cmp_total)
+    (then_total (on_total (λ (p : ReachedPoint). p.standing.depth) int_cmp_total)
+    (on_total number_of (options_total nat_cmp_total))))
 
 -- ---- what a sort and a dedup leave
 

@@ -11,9 +11,9 @@ use Rattle.verify80_walks.specs.declared.point.Point.{Point}
 use Rattle.verify80_explain.specs.declared.reaching.Reach.{Reach}
 use Rattle.verify80_explain.specs.declared.reaching.ReachedPoint.{ReachedPoint}
 use Rattle.verify80_explain.specs.Chains.{StandsAt}
-use Rattle.verify80_explain.specs.Conditions.{code_from}
+use Rattle.verify80_explain.specs.Conditions.{AreConditionsOf, MayBegin, code_from}
 use Rattle.verify80_explain.specs.Evidence.{FaultAt}
-use Rattle.verify80_explain.specs.Order.{AreAscending, AreSame}
+use Rattle.verify80_explain.specs.Order.{AreAscending, ArePointsInOrder, AreSame}
 use Rattle.verify80_walks.specs.Ways.{IsWalked}
 
 -- the instruction at an address may not be executed, whatever the frame is
@@ -42,9 +42,12 @@ pub record IsReachedOn (code : Code) (begins : List (Option ℕ)) (conditions : 
   pub among : Contains begins begin
   pub there : IsReachedAt code (code_from begin conditions code) point
 
--- each point is reached on the conditions that stand with them
-abbrev pub AreReachedOn : Code → Reach → Type 0
-AreReachedOn code reach = All (IsReachedOn code reach.begins.items reach.conditions) reach.points.items
+-- each point is reached on the conditions that stand with them, which are of the program; the points ascend, each once
+pub record AreReachedOn (code : Code) (reach : Reach) : Type 0 where
+  pub begins : All (MayBegin code) reach.begins.items
+  pub conditions : AreConditionsOf code reach.conditions
+  pub each : All (IsReachedOn code reach.begins.items reach.conditions) reach.points.items
+  pub in_order : ArePointsInOrder reach.points.items
 
 -- a refusal is that of one of these points
 abbrev pub IsRefusalAmong : List ReachedPoint → Refusal → Type 0

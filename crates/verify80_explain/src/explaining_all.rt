@@ -99,7 +99,7 @@ pub fn explain_all(alloc: Global, image: &Image, limit: usize) -> Result<ShownRe
 }
 
 /// Sorts what is shown by address and number, and leaves each refusal once.
-fn sort_shown(shown: &mut Vec<ShownRefusal>) -> Result<(), AllocError>
+pub(crate) fn sort_shown(shown: &mut Vec<ShownRefusal>) -> Result<(), AllocError>
     ensures kept { (code : Code) → All (IsShown code) shown.old.items → OnOk result (All (IsShown code) shown.new.items) }
     ensures in_order { OnOk result (AreShownInOrder shown.new.items) }
 {

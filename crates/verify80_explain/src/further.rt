@@ -1,16 +1,20 @@
-//! Refusals behind refused instructions, and the conditions on which walks reach them. Nothing rests on which conditions are chosen: what
-//! is shown on some is shown by ways of the program on these conditions.
+//! Refusals behind refused instructions, and the conditions on which walks reach them. Nothing rests on which conditions are chosen: that
+//! they are of the program is checked, and what is shown on some is shown by ways of the program on these conditions.
 
-ghost use Rattle.std.specs.Prelude.{All};
+ghost use Rattle.std.specs.Prelude.{All, OnOk};
 ghost use Rattle.verify80.specs.Looking.{code_of};
-ghost use Rattle.verify80_explain.specs.Conditions.{AreShownIf, code_if};
+ghost use Rattle.verify80_explain.specs.Conditions.{AreConditionsOf, AreShownIf, code_if};
+ghost use Rattle.verify80_explain.specs.Order.{AreShownInOrder};
 ghost use Rattle.verify80_explain.specs.Shows.{IsShown};
 
+use crate::checking::{called_at, keep_conditions, may_begin};
 use crate::conditions::{ConditionalCode, Conditions};
-use crate::explaining_all::{FaultyPoint, FurtherRefusals, ShownRefusal, find_faulty, show_each};
+use crate::explaining_all::{
+    FaultyPoint, FurtherRefusals, ShownRefusal, find_faulty, show_each, sort_shown,
+};
 use crate::place::Place;
-use frames80::{Change, Code, Effect, FrameFault, LookFault, effect_of};
-use indexmap::IndexSet;
+use frames80::{Code, Effect, FrameFault, LookFault, effect_of};
+use indexmap::{IndexMap, IndexSet};
 use std::alloc::{AllocError, Global};
 use verify80::ImageCode;
 use verify80_flow::Procedure;
@@ -32,6 +36,8 @@ pub(crate) struct Conditioning<'a, 'b> {
     passed: IndexSet<u16>,
     /// The entries of procedures that are taken as returning.
     returning: IndexSet<u16>,
+    /// An address at which each procedure is called.
+    pub(crate) calls: IndexMap<u16, u16>,
     /// The places of the refusals that have been found.
     found: IndexSet<Place>,
     /// What the points of further searches may weigh together.
@@ -70,7 +76,8 @@ pub(crate) fn show_further(
     let mut is_whole = conditioning.is_whole;
     for candidate in candidates {
         if !places.contains(&candidate.place) {
-            let conditions = candidate.conditions;
+            let found = candidate.conditions;
+            let conditions = keep_conditions(alloc, code, &conditioning.calls, &found)?;
             let are_shown = show_on(alloc, code, conditions, &mut places, &mut left, further)?;
             is_whole = is_whole && are_shown;
         }
@@ -81,14 +88,12 @@ pub(crate) fn show_further(
 /// The places of these refusals.
 fn places_of(alloc: Global, known: &[ShownRefusal]) -> Result<IndexSet<Place>, AllocError> {
     let mut places = IndexSet::new(alloc);
-    for one in known {
-        places.insert(Place::of(one.refusal))?;
-    }
+    add_places(known, &mut places)?;
     Ok(places)
 }
 
 /// Appends the refusals that walks reach on these conditions to `further`, but for those at `places`, to which they are added. Answers
-/// whether none is left out.
+/// whether none is left out. The conditions must be of the program.
 fn show_on(
     alloc: Global,
     code: &ImageCode,
@@ -97,18 +102,26 @@ fn show_on(
     left: &mut usize,
     further: &mut Vec<FurtherRefusals>,
 ) -> Result<bool, Unexplained>
+    requires { AreConditionsOf (code_of code.now) conditions }
     ensures { All (AreShownIf (code_of code.now)) further.old.items → All (AreShownIf (code_of code.now)) further.new.items }
 {
     let mut shown = Vec::new(alloc);
     let are_shown = show_if(alloc, code, &conditions, places, left, &mut shown)?;
-    for one in shown.as_slice() {
-        places.insert(Place::of(one.refusal))?;
-    }
+    add_places(&shown, places)?;
     further.push(FurtherRefusals { conditions, shown })?;
     Ok(are_shown)
 }
 
-/// Appends the refusals that walks reach on these conditions to `shown`, but for those at `places`. Answers whether none is left out.
+/// Adds the places of these refusals to `places`.
+fn add_places(shown: &[ShownRefusal], places: &mut IndexSet<Place>) -> Result<(), AllocError> {
+    for one in shown {
+        places.insert(Place::of(one.refusal))?;
+    }
+    Ok(())
+}
+
+/// Appends the refusals that walks reach on these conditions to `shown`, but for those at `places`, and sorts them. Answers whether none
+/// is left out.
 fn show_if(
     alloc: Global,
     code: &ImageCode,
@@ -117,15 +130,18 @@ fn show_if(
     left: &mut usize,
     shown: &mut Vec<ShownRefusal>,
 ) -> Result<bool, Unexplained>
-    ensures { All (IsShown (code_if conditions.now (code_of code.now))) shown.old.items
-        → All (IsShown (code_if conditions.now (code_of code.now))) shown.new.items }
+    ensures shown { All (IsShown (code_if conditions.now (code_of code.now))) shown.old.items
+        → OnOk result (All (IsShown (code_if conditions.now (code_of code.now))) shown.new.items) }
+    ensures in_order { OnOk result (AreShownInOrder shown.new.items) }
 {
     let program = ConditionalCode {
         code,
         begins: conditions.begins,
         conditions,
     };
-    show_new(alloc, &program, places, left, shown)
+    let are_shown = show_new(alloc, &program, places, left, shown)?;
+    sort_shown(shown)?;
+    Ok(are_shown)
 }
 
 /// Appends the refusals of points that walks of a program reach to `shown`, but for those at `places`. Answers whether none is left out.
@@ -181,6 +197,7 @@ impl<'a, 'b> Conditioning<'a, 'b> {
             begins,
             passed: IndexSet::new(alloc),
             returning: IndexSet::new(alloc),
+            calls: IndexMap::new(alloc),
             found: places_of(alloc, known)?,
             left: limit,
             is_whole: true,
@@ -316,8 +333,8 @@ impl<'a, 'b> Conditioning<'a, 'b> {
         Ok(search)
     }
 
-    /// Adds the conditions that refused instructions of a search ask for; to `refused` the entries of procedures that don't return
-    /// because of another refusal.
+    /// Adds the conditions that refused instructions of a search ask for, and where procedures are called; to `refused` the entries of
+    /// procedures that don't return because of another refusal.
     fn gather(
         &mut self,
         alloc: Global,
@@ -327,6 +344,7 @@ impl<'a, 'b> Conditioning<'a, 'b> {
     ) -> Result<(), Unexplained> {
         let program = ConditionalCode::new(self.code, conditions);
         for point in search.points.as_slice() {
+            self.note_call(point.at)?;
             match look_at(alloc, &program, point)? {
                 Looked::Moved(_moves, _next) => {}
                 Looked::Wrong(LookFault::EnablesInterrupts | LookFault::DirectStore) => {
@@ -337,6 +355,14 @@ impl<'a, 'b> Conditioning<'a, 'b> {
                     refuse(search, point.procedure, refused)?;
                 }
             }
+        }
+        Ok(())
+    }
+
+    /// Notes which procedure the instruction at an address calls, if it calls one.
+    fn note_call(&mut self, at: u16) -> Result<(), AllocError> {
+        if let Some(entry) = called_at(self.code, at) {
+            self.calls.insert(entry, at)?;
         }
         Ok(())
     }
@@ -353,11 +379,7 @@ impl<'a, 'b> Conditioning<'a, 'b> {
 
     /// Adds that the program begins anew at an address, if its instruction loads the stack's top into SP.
     fn begin_anew(&mut self, at: u16) -> Result<(), AllocError> {
-        let Ok(found) = self.code.look(at) else {
-            return Ok(());
-        };
-        let loads_top = Effect::Change(Change::SetStack(self.code.top()));
-        if effect_of(found.instr) != loads_top {
+        if !may_begin(self.code, Some(at)) {
             return Ok(());
         }
         if self.begins.len() < MOST_CONDITIONS {

@@ -19,6 +19,7 @@
 #![tactic(auto)]
 
 mod chain;
+mod checking;
 mod conditions;
 mod evidence;
 mod explaining;

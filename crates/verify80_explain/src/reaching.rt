@@ -1,15 +1,20 @@
 //! All that walks of an image's program reach, on conditions.
 
-ghost use Rattle.std.specs.Prelude.{◌≡◌, All, IfOk, IfSome, OnOk, Some};
+ghost use Rattle.std.specs.Prelude.{◌≡◌, ℕ, List, Option, All, IfOk, IfSome, OnOk, Some};
+ghost use Rattle.frames80.specs.Code.{Code as CodeSeen};
+ghost use Rattle.frames80.specs.Procedures.{slot_of};
 ghost use Rattle.std.specs.List.{filter_map};
 ghost use Rattle.verify80.specs.Looking.{code_of};
+ghost use Rattle.verify80_explain.specs.declared.conditions.Conditions.{Conditions};
 ghost use Rattle.verify80_explain.specs.Conditions.{code_from};
+ghost use Rattle.verify80_explain.specs.Order.{ArePointsInOrder, number_of};
 ghost use Rattle.verify80_walks.specs.Reached.{AreWalked};
 ghost use Rattle.verify80_explain.specs.Reaching.{AreReachedOn, AreRefusalsOf, IsReachedAt, IsReachedOn, IsRefusedAt};
 ghost use Rattle.verify80_walks.specs.Ways.{IsWalked};
 ghost use Rattle.verify80_flow.specs.Refusal.{refusal_address};
 
 use crate::chain::{Standing, depth_at};
+use crate::checking::{keep_begins, keep_conditions};
 use crate::conditions::{ConditionalCode, Conditions};
 use crate::explaining_all::{is_reached_within, look_refusal, refusal_at};
 use crate::further::Conditioning;
@@ -39,14 +44,14 @@ pub struct Reach {
     /// The instructions that are passed over, and the procedures that return.
     pub conditions: Conditions,
     /// Where walks stand, from any of the beginnings on: each procedure, address, depth and refusal once; the main program's points
-    /// first, then those of other procedures by entry, and those of one procedure by address and depth.
+    /// first, then those of other procedures by entry, and those of one procedure by address, depth and the refusal's number.
     pub points: Vec<ReachedPoint>,
     /// Whether every walk on these conditions was followed to its end.
     pub is_whole: bool,
 }
 
-/// What tells a reached point from others.
-#[derive(Clone, Copy, PartialEq, Eq, Hash)]
+/// What tells a reached point from others, and by which they are sorted.
+#[derive(Clone, Copy, PartialEq, Eq, PartialOrd, Ord, Hash)]
 struct Key {
     place: usize,
     at: u16,
@@ -56,7 +61,14 @@ struct Key {
 
 impl Key {
     /// The key of a point.
-    fn of(point: ReachedPoint) -> Key {
+    fn of(point: ReachedPoint) -> Key
+        ensures { result ≡ record {
+          place = slot_of point.standing.procedure;
+          at = point.standing.at;
+          depth = point.standing.depth;
+          refusal = number_of point;
+        } }
+    {
         let ReachedPoint { standing, refusal } = point;
         Key {
             place: slot(standing.procedure),
@@ -85,8 +97,10 @@ pub fn reach_all(alloc: Global, image: &Image, limit: usize) -> Result<Reach, Al
     let found = conditioning.look_for_all(alloc, &mut candidates);
     let are_all = is_reached_within(found.map(|()| true))?;
     conditioning.allow(limit / 2);
-    let begins = conditioning.begins(alloc)?;
-    let conditions = conditioning.all_from(alloc, 0)?;
+    let found_begins = conditioning.begins(alloc)?;
+    let begins = keep_begins(alloc, &code, &found_begins)?;
+    let found_conditions = conditioning.all_from(alloc, 0)?;
+    let conditions = keep_conditions(alloc, &code, &conditioning.calls, &found_conditions)?;
     let mut points = Vec::new(alloc);
     let are_reached = reach_from_each(
         alloc,
@@ -96,7 +110,7 @@ pub fn reach_all(alloc: Global, image: &Image, limit: usize) -> Result<Reach, Al
         &conditions,
         &mut points,
     )?;
-    points.sort_by_key(place_of)?;
+    sort_points(&mut points)?;
     let is_whole = are_all && are_reached && conditioning.is_whole();
     Ok(Reach {
         begins,
@@ -106,10 +120,15 @@ pub fn reach_all(alloc: Global, image: &Image, limit: usize) -> Result<Reach, Al
     })
 }
 
-/// The key by which points are sorted.
-fn place_of(point: &ReachedPoint) -> (usize, u16, i64) {
-    let standing = point.standing;
-    (slot(standing.procedure), standing.at, standing.depth)
+/// Sorts points by procedure, address, depth and refusal, and leaves each once.
+fn sort_points(points: &mut Vec<ReachedPoint>) -> Result<(), AllocError>
+    ensures kept { (code : CodeSeen) (begins : List (Option ℕ)) (conditions : Conditions) → All (IsReachedOn code begins conditions) points.old.items
+        → OnOk result (All (IsReachedOn code begins conditions) points.new.items) }
+    ensures in_order { OnOk result (ArePointsInOrder points.new.items) }
+{
+    points.sort_by_key(|point| Key::of(*point))?;
+    points.dedup_by_key(|point| Key::of(*point));
+    Ok(())
 }
 
 /// The refusals of points, each once, ascending by address, and those of one address by number; those without an address come first.
