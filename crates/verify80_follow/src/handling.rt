@@ -6,10 +6,10 @@ ghost use Rattle.image80.specs.Regions.{AreRegions, in_data};
 ghost use Rattle.verify80_spans.specs.Span.{Within};
 ghost use Rattle.verify80_states.specs.{Known.IsKnownInside, Known.nothing_known, Marks.is_marked, QuietBoards.is_quiet, Steps.AreCodeBytes};
 ghost use Rattle.verify80_stores.specs.{DataReach.AreDataEnds, Opening.pointer_span};
-ghost use Rattle.verify80_follow.specs.Follows.{Has, stack_of, uses_pointer, entered_stack, ways_of};
+ghost use Rattle.verify80_follow.specs.Follows.{Has, stack_of, uses_pointer, entered_stack};
 ghost use Rattle.verify80_follow.specs.Held.{IsBesideInside, count_of, nothing_beside};
 ghost use Rattle.verify80_follow.specs.Handling.{BeginsAnew, GivesBack, Handles, IsHandled, IsReturn, entered_beside};
-ghost use Rattle.verify80_follow.specs.{Fitting.AreFit, Live.PromiseOfLive, Live.handler_bounds, Live.handler_ways, Reaching.places_of};
+ghost use Rattle.verify80_follow.specs.{Fitting.AreFit, Fitting.fitting_of, Live.PromiseOfLive, Live.handler_bounds, Live.handler_ways, Reaching.places_of};
 ghost use Rattle.verify80_follow.specs.Stack.{IsStackInside};
 ghost use Rattle.verify80_follow.specs.Writes.{AreWriteEnds, MayBeWritten};
 
@@ -107,10 +107,9 @@ impl Fit<'_> {
         requires regions { self.now.regions.now ≡ self.now.program.now.regions }
         requires written { around.writes.regions.now ≡ self.now.program.now.regions }
         requires ends { AreDataEnds self.now.regions.now self.now.ends.now }
-        requires interrupted { self.now.interrupted ≡ true }
         requires anew { (at : ℕ) → is_marked around.anew.now at ≡ true → Has around.main.now at nothing_known nothing_beside (Some []) }
         requires writes { AreWriteEnds around.writes.regions.now around.writes.marks.now around.writes.ends.now }
-        ensures { IfOk result (λ handles. handles ≡ true → Handles self.now.program.now around.entry.main.now (is_marked around.entry.writes.marks.now) self.now.bounds (is_marked self.now.quiet.now) self.now.code.now (ways_of self.now.ways.now self.now.places.now) self.now.listed.now self.now.table.now self.now.bytes state.now) }
+        ensures { IfOk result (λ handles. handles ≡ true → Handles around.entry.main.now (is_marked around.entry.writes.marks.now) self.now.bounds (fitting_of self.now) state.now) }
     {
         let Some(executed) = self.executed(state.at) else {
             return Ok(false);
@@ -137,10 +136,9 @@ impl Fit<'_> {
         requires regions { self.now.regions.now ≡ self.now.program.now.regions }
         requires written { around.writes.regions.now ≡ self.now.program.now.regions }
         requires ends { AreDataEnds self.now.regions.now self.now.ends.now }
-        requires interrupted { self.now.interrupted ≡ true }
         requires anew { (at : ℕ) → is_marked around.anew.now at ≡ true → Has around.main.now at nothing_known nothing_beside (Some []) }
         requires writes { AreWriteEnds around.writes.regions.now around.writes.marks.now around.writes.ends.now }
-        ensures { IfOk result (λ handle. handle ≡ true → All (λ s. Handles self.now.program.now around.entry.main.now (is_marked around.entry.writes.marks.now) self.now.bounds (is_marked self.now.quiet.now) self.now.code.now (ways_of self.now.ways.now self.now.places.now) self.now.listed.now self.now.table.now self.now.bytes s) self.now.table.now) }
+        ensures { IfOk result (λ handle. handle ≡ true → All (Handles around.entry.main.now (is_marked around.entry.writes.marks.now) self.now.bounds (fitting_of self.now)) self.now.table.now) }
     {
         for place in 0..self.table.len() {
             if !self.handles_state(alloc, &self.table[place], around)? {
@@ -434,7 +432,7 @@ fn is_handled(
         places,
         numbers: &numbers,
         listed,
-        summaries: &table.summaries,
+        summaries: &[],
         bytes: table.bytes,
         bounds: StackBounds {
             top: program.top(),

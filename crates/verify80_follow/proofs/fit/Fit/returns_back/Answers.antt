@@ -2,10 +2,9 @@ use Rattle.std.specs.Prelude.{◌≡◌, true}
 use Rattle.std.proofs.Common.{ap, refl, subst, sym, ◌∙◌}
 use Rattle.decode80.specs.Facts.{flow}
 use Rattle.image80.specs.Regions.{Areas}
-use Rattle.verify80_states.specs.Marks.{is_marked}
 use Rattle.verify80_follow.specs.Follows.{IsShownOrListed, PassesBy, ReturnsBack, is_return}
 use Rattle.verify80_follow.proofs.FitLemmas.{ok_maps}
-use Rattle.verify80_follow.specs.Follows.{ways_of}
+use Rattle.verify80_follow.specs.Fitting.{fitting_of}
 use Rattle.verify80_follow.proofs.fit.Fit.returns_back.Goals as goal
 
 pub returns : goal.returns
@@ -13,8 +12,8 @@ returns c =
     let fit = c.args.self.now in
     let state = c.args.state.now in
     let found = c.in-Some.executed.found in
-    ok_maps c.passes_by.result (λ p. p ≡ true → PassesBy fit.program.now fit.bounds fit.interrupted (is_marked fit.quiet.now) fit.code.now (ways_of fit.ways.now fit.places.now) fit.listed.now fit.summaries.now fit.table.now fit.bytes state found (flow found.instr))
-    (λ p. p ≡ true → ReturnsBack fit.program.now fit.bounds fit.interrupted (is_marked fit.quiet.now) fit.code.now (ways_of fit.ways.now fit.places.now) fit.listed.now fit.summaries.now fit.table.now fit.bytes state)
+    ok_maps c.passes_by.result (λ p. p ≡ true → PassesBy fit.bounds (fitting_of fit) state found (flow found.instr))
+    (λ p. p ≡ true → ReturnsBack fit.bounds (fitting_of fit) state)
     (λ p passes is. record {
       stands = record {
         found = found;
