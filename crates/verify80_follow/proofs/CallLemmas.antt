@@ -32,11 +32,12 @@ use Rattle.verify80_follow.specs.Handling.{on_stack}
 use Rattle.verify80_follow.specs.Live.{entering}
 use Rattle.verify80_follow.specs.Promise.{FollowedProgramsKeepThePromise, IsLeftOpenAt, IsOnStack, IsReady, KeepsFollowed, KnowsWorld, PromiseOfFollowed, PromiseOfInterrupted}
 use Rattle.verify80_follow.proofs.{GroundLemmas.Ground, HeldLemmas.all_of, HeldLemmas.two_of, PlaceLemmas.inner_placed, PlaceLemmas.main_placed, RelativeLemmas.summary_more}
-use Rattle.verify80_follow.proofs.FollowLemmas.{Laws, anywhere, begun as begun_table, bounded, direct as direct_in}
+use Rattle.verify80_follow.specs.StepLaws.{StepLaws}
+use Rattle.verify80_follow.proofs.FollowLemmas.{anywhere, begun as begun_table, bounded, direct as direct_in}
 use Rattle.verify80_follow.proofs.FollowLemmas.{disturbs as disturbs_table, enters, executes_found, executes_passed}
 use Rattle.verify80_follow.proofs.FollowLemmas.{keeps as keeps_table, keeps_by, nobody, one_of, same_some, stays_inside, touches_stack, wakes_found}
 use Rattle.verify80_follow.proofs.GuardLemmas.{Touches, at_count}
-use Rattle.verify80_follow.proofs.PartLemmas.{byte_kept, into_back, into_bytes, into_stack, into_whole, off_part, off_stack, part_below, part_inside, regions_below, two_above}
+use Rattle.verify80_follow.proofs.PartLemmas.{byte_kept, executes_moved, into_back, into_bytes, into_stack, into_whole, off_part, off_stack, part_below, part_inside, regions_below, two_above}
 use Rattle.verify80_follow.specs.Follows.{Fitting, Ways, fitting, summary_fitting, ways_of}
 use Rattle.verify80_follow.proofs.StackLemmas.{next_pointer, on_stack as on_part, pointer_below, pointer_is, range_high}
 
@@ -146,7 +147,7 @@ nothing_but b e back count m holds = record { psw = none Psw; bc = none StackBc;
   none : (pair : StackPair) → HoldsPairHeld b e pair no_pair count m
   none pair = record { in_place = λ is. cc; saved = tt }
 
-module _ (laws : Laws) (grounds : (regions : Areas) → AreRegions regions → Ground regions) (image : Located) (interrupted : Bool) (quiet : ℕ → Bool) (is_set : Bool) (ways : Ways) (listed : Listed) (table : List FollowedState) (bytes : ℕ)
+module _ (laws : StepLaws) (grounds : (regions : Areas) → AreRegions regions → Ground regions) (image : Located) (interrupted : Bool) (quiet : ℕ → Bool) (is_set : Bool) (ways : Ways) (listed : Listed) (table : List FollowedState) (bytes : ℕ)
     (rules : AreRegions image.regions) (quiet_data : (at : ℕ) → quiet at ≡ true → in_data image.regions at ≡ true) (fits : Follows image interrupted quiet is_set ways listed table bytes) (few : bytes ≤ image.regions.stack.length)
     (all_placed : (at : ℕ) → Contains (places_among table fits.summaries) at → Contains ways.places at) where
   abbrev ground : Ground image.regions
@@ -361,16 +362,7 @@ module _ (laws : Laws) (grounds : (regions : Areas) → AreRegions regions → G
       -- an instruction
       module _ (v : World) (by : Executes image.regions (IsLeftOpenAt listed) w v) where
         abbrev by_part : Executes (part l.base).regions (IsLeftOpenAt listed) w v
-        by_part = record {
-          found = by.found;
-          byte = by.byte;
-          after = by.after;
-          fetched = by.fetched;
-          small = by.small;
-          inside = λ at. record { stores = (by.inside at).stores; jumps = (by.inside at).jumps };
-          goes = by.goes;
-          is = by.is;
-        }
+        by_part = executes_moved image (part_below image.regions l.base) (IsLeftOpenAt listed) w v by
 
         same : by.found ≡ found
         same = same_some by.found found (sym by.fetched ∙ here)
@@ -521,7 +513,7 @@ module _ (laws : Laws) (grounds : (regions : Areas) → AreRegions regions → G
       two_here = two_stand (bounds_of (part l.base)) m.cpu.sp m.memory set (stack_of k.state) back.alone k.stack
 
       two_most : 2 ≤ l.most
-      two_most = two_deep l.most (stack_of k.state) back.alone back.stands.depth
+      two_most = two_deep l.most (stack_of k.state) back.alone back.stands.may.depth
 
       next_up : ahead m.cpu.sp 1 ≡ pointer_at (bounds_of (part l.base)) 1
       next_up = ap (λ a. ahead a 1) two_here.0 ∙ next_pointer (part l.base).regions (ground_of l.base) 1 (let less = few_at l fit in omega (arith, less, two_most))
@@ -666,7 +658,7 @@ module _ (laws : Laws) (grounds : (regions : Areas) → AreRegions regions → G
         fit = fit;
         rest = rest;
         chain = subst (λ (u : World). Chain rest l u.machine.memory) (sym by.is) (chain_stays rest l m.memory by.memory fit off_it chain);
-        known = disturbs_table laws (fitting_at l) l.entered is_set (rules_of l.base) (ground_of l.base) quiet_data fits.are_code (few_at l fit) set enabled w v k (stands_of goes).knows
+        known = disturbs_table laws (fitting_at l) l.entered is_set (rules_of l.base) (ground_of l.base) quiet_data fits.are_code (few_at l fit) set enabled w v k (stands_of goes).may.knows
             (record { memory = by.memory; leaves = leaves_part; is = by.is }) still;
       }
 
@@ -677,7 +669,7 @@ module _ (laws : Laws) (grounds : (regions : Areas) → AreRegions regions → G
             at_none = ap part none ∙ whole_part
 
       disturbs_inner : (rest : List Level) → Chain rest l m.memory → 2 ≤ count_of (stack_of k.state) → Knows set enabled v
-      disturbs_inner rest chain enough = with_stack (stack_of k.state) enough k.stack (stands_of goes).depth where
+      disturbs_inner rest chain enough = with_stack (stack_of k.state) enough k.stack (stands_of goes).may.depth where
         with_stack : (o : Option (List ByteSpan)) → 2 ≤ count_of o → IfSome o (λ b. HoldsStack (bounds_of (part l.base)) b m.cpu.sp m.memory × (set ≡ true)) → IfSome o (λ b. length b ≤ l.most) → Knows set enabled v
         with_stack None two stands deep = absurd (omega (arith, two))
         with_stack (Some b) two stands deep = disturbs_at rest chain
@@ -702,7 +694,7 @@ module _ (laws : Laws) (grounds : (regions : Areas) → AreRegions regions → G
         of true inner = disturbs_inner rest chain (one_of (λ (s : FollowedState). 2 ≤ count_of (stack_of s)) l.table k.place k.state (fit.enough inner) k.there)
 
     ready_at : interrupted ≡ true → enabled ≡ true → IsReady image bytes set w
-    ready_at on may = of (stack_of k.state) (k.serves on may) k.stack (stands_of goes).depth where
+    ready_at on may = of (stack_of k.state) (k.serves on may) k.stack (stands_of goes).may.depth where
       of : (o : Option (List ByteSpan)) → IsSome o → IfSome o (λ b. HoldsStack (bounds_of (part l.base)) b m.cpu.sp m.memory × (set ≡ true)) → IfSome o (λ b. length b ≤ l.most) → IsReady image bytes set w
       of None some stands deep = cc
       of (Some b) some stands deep = let room = fit.room in record { is_set = stands.1; count = l.base + length b; few = omega (arith, deep, room); pointer = stands.0.pointer ∙ shifted l.base (length b) (omega (arith, deep, room, few)) }
@@ -759,6 +751,6 @@ module _ (laws : Laws) (grounds : (regions : Areas) → AreRegions regions → G
       let x = knows on start pc whole code held top set enabled w board in
       (all_placed w.machine.cpu.pc (stands set enabled w x), (subst (λ (b : Bool). KeepsFollowed image b bytes ways listed w) on (keeps set enabled w x), λ may. ready set enabled w x on may))
 
-pub promise : Laws → ((regions : Areas) → AreRegions regions → Ground regions) → FollowedProgramsKeepThePromise
+pub promise : StepLaws → ((regions : Areas) → AreRegions regions → Ground regions) → FollowedProgramsKeepThePromise
 promise laws grounds false image quiet is_set places ways listed table bytes rules quiet_data fits all_placed few = followed_keeps laws grounds image false quiet is_set (ways_of ways places) listed table bytes rules quiet_data fits few all_placed refl
 promise laws grounds true image quiet is_set places ways listed table bytes rules quiet_data fits all_placed few = interrupted_keeps laws grounds image true quiet is_set (ways_of ways places) listed table bytes rules quiet_data fits few all_placed refl

@@ -42,7 +42,7 @@ use Rattle.verify80_follow.specs.Promise.{GoesToListed, IsLeftOpenAt, IsOnStack,
 use Rattle.verify80_follow.proofs.{GroundLemmas.Ground, FetchLemmas.anywhere_of, FetchLemmas.fetched_here, FetchLemmas.inside_of, StackSteps.stack_holds}
 use Rattle.verify80_follow.proofs.GuardLemmas.{Touches, all_of_list, passes_guard, touched}
 use Rattle.verify80_follow.proofs.StackLemmas.{any_within, byte_at, moved_holds, on_stack, pointer_is, stays_from}
-use Rattle.verify80_follow.specs.Follows.{Fitting, Ways}
+use Rattle.verify80_follow.specs.{Follows.Fitting, Follows.Ways, StepLaws.StepLaws}
 use Rattle.verify80_follow.proofs.PointLemmas.{Points, not_outside, points_by, within_outer}
 
 -- small things
@@ -264,18 +264,7 @@ declared_jump (Some targets) to some inside = by (list_any (λ target. target ==
   by true e inside = Contains-from_any {eq = λ x y. y == x} (λ x y same. sym (eqb-true y x same)) to targets e
   by false e inside = cc
 
--- the laws of the crates below that are cited
-pub record Laws : Type 0 where
-  pub instructions : InstructionsAreFollowed
-  pub conditions : ConditionsLeaveKnown
-  pub holds : WhatHoldsOfBytes
-  pub quiet : KnownStaysQuiet
-  pub reads : FetchReadsCodeAlone
-  pub bounded : FetchedOperandsAreBounded
-  pub facts : InstructionsKeepToFacts
-  pub round : StatusWordRoundTrip
-
-module _ (laws : Laws) (fit : Fitting) (entered : Entry) (is_set : Bool) (rules : AreRegions fit.image.regions) (ground : Ground fit.image.regions)
+module _ (laws : StepLaws) (fit : Fitting) (entered : Entry) (is_set : Bool) (rules : AreRegions fit.image.regions) (ground : Ground fit.image.regions)
     (quiet_data : (at : ℕ) → fit.quiet at ≡ true → in_data fit.image.regions at ≡ true) (are_code : AreCodeBytes fit.image fit.code) (few : fit.bytes ≤ fit.image.regions.stack.length) where
   abbrev image : Located
   image = fit.image
@@ -446,7 +435,7 @@ module _ (laws : Laws) (fit : Fitting) (entered : Entry) (is_set : Bool) (rules 
           }
 
     stands : (t : Taken) → Stacked t.known t.taken t.covers.stack
-    stands t = stacked_by t.known t.taken (stack_of k.state) t.covers.stack t.holds t.is k.stack entry.depth t.covers.depth t.covers.is
+    stands t = stacked_by t.known t.taken (stack_of k.state) t.covers.stack t.holds t.is k.stack entry.may.depth t.covers.depth t.covers.is
 
     -- what a handler still has after it
     held_after : (byte : ℕ) (after : Machine) → unguarded found.instr byte found.next m ≡ Some after → StaysInside image.regions m found.instr → (t : Taken) →
@@ -474,7 +463,7 @@ module _ (laws : Laws) (fit : Fitting) (entered : Entry) (is_set : Bool) (rules 
 
       -- interrupts may come only once SP is set
       served : (i : Instr) → found.instr ≡ i → interrupted ≡ true → enabled_after i enabled ≡ true → IsSome (stack_of k.state)
-      served Ei is on may = entry.serves on is
+      served Ei is on may = entry.may.serves on is
       served Di is on may = cc
       served i is on may = k.serves on may
 
@@ -514,12 +503,12 @@ module _ (laws : Laws) (fit : Fitting) (entered : Entry) (is_set : Bool) (rules 
 
     -- which way that is
     always : (taken : Bool) (to : ℕ) → CoversThen (bounds_of image) fit k.state found taken to k.state.known → is_taken (flow found.instr) m.cpu.registers.flags ≡ taken → goes_to (flow found.instr) found.next m.memory m.cpu ≡ to → Taken
-    always taken to covers is goes = record { taken = taken; to = to; known = k.state.known; covers = covers; is = is; holds = k.known; are = entry.knows; goes = goes }
+    always taken to covers is goes = record { taken = taken; to = to; known = k.state.known; covers = covers; is = is; holds = k.known; are = entry.may.knows; goes = goes }
 
     if_given : (condition : Condition) (b : Bool) (to : ℕ) → holds_of condition m.cpu.registers.flags ≡ b → LeadsTo (bounds_of image) fit k.state found b to (given condition b k.state.known) → is_taken (flow found.instr) m.cpu.registers.flags ≡ b →
         goes_to (flow found.instr) found.next m.memory m.cpu ≡ to → Taken
     if_given condition b to is leads taken goes =
-        let left = laws.conditions quiet condition b k.state.known m k.bytes k.known entry.knows is in
+        let left = laws.conditions quiet condition b k.state.known m k.bytes k.known entry.may.knows is in
         record { taken = b; to = to; known = left.left; covers = subst (λ (o : Option Known). LeadsTo (bounds_of image) fit k.state found b to o) left.is leads; is = taken; holds = left.holds; are = left.are; goes = goes }
 
     -- a return that is taken
@@ -536,7 +525,7 @@ module _ (laws : Laws) (fit : Fitting) (entered : Entry) (is_set : Bool) (rules 
 
     back_given : (condition : Condition) → holds_of condition m.cpu.registers.flags ≡ true → ReturnsLeft (bounds_of image) fit k.state found (given condition true k.state.known) → Back true
     back_given condition is left_back =
-        let left = laws.conditions quiet condition true k.state.known m k.bytes k.known entry.knows is in
+        let left = laws.conditions quiet condition true k.state.known m k.bytes k.known entry.may.knows is in
         record { known = left.left; back = subst (λ (o : Option Known). ReturnsLeft (bounds_of image) fit k.state found o) left.is left_back; holds = left.holds; are = left.are }
 
     by_back : (b : Back true) → is_taken (flow found.instr) m.cpu.registers.flags ≡ true → goes_to (flow found.instr) found.next m.memory m.cpu ≡ word_in m.memory m.cpu.sp → Taken
@@ -570,7 +559,7 @@ module _ (laws : Laws) (fit : Fitting) (entered : Entry) (is_set : Bool) (rules 
       by : (b : Bool) → holds_of condition m.cpu.registers.flags ≡ b → Taken
       by true holds = if_given condition true to holds follows.0 (ap (λ (f : Flow). is_taken f m.cpu.registers.flags) is ∙ holds) (ap (λ (f : Flow). goes_to f found.next m.memory m.cpu) is ∙ ap (λ (b : Bool). if b then to else found.next) holds)
       by false holds = if_given condition false found.next holds follows.1 (ap (λ (f : Flow). is_taken f m.cpu.registers.flags) is ∙ holds) (ap (λ (f : Flow). goes_to f found.next m.memory m.cpu) is ∙ ap (λ (b : Bool). if b then to else found.next) holds)
-    way_of Returns is on inside follows = by_back (record { known = k.state.known; back = follows; holds = k.known; are = entry.knows }) (ap (λ (f : Flow). is_taken f m.cpu.registers.flags) is) (ap (λ (f : Flow). goes_to f found.next m.memory m.cpu) is)
+    way_of Returns is on inside follows = by_back (record { known = k.state.known; back = follows; holds = k.known; are = entry.may.knows }) (ap (λ (f : Flow). is_taken f m.cpu.registers.flags) is) (ap (λ (f : Flow). goes_to f found.next m.memory m.cpu) is)
     way_of (ReturnsIf condition) is on inside follows = by (holds_of condition m.cpu.registers.flags) refl where
       by : (b : Bool) → holds_of condition m.cpu.registers.flags ≡ b → Taken
       by true holds = by_back (back_given condition holds follows.0) (ap (λ (f : Flow). is_taken f m.cpu.registers.flags) is ∙ holds) (ap (λ (f : Flow). goes_to f found.next m.memory m.cpu) is ∙ ap (λ (b : Bool). if b then word_in m.memory m.cpu.sp else found.next) holds)
@@ -586,7 +575,7 @@ module _ (laws : Laws) (fit : Fitting) (entered : Entry) (is_set : Bool) (rules 
     back_way b = subst (λ n. IsWay image ways n (word_in m.memory m.cpu.sp)) k.at (subst (λ n. IsWay image ways k.state.at n) (returned_to b.known b.back) b.back.way)
 
     returning_by : (f : Flow) → FollowsBy (bounds_of image) fit k.state found f → is_return_taken f m.cpu.registers.flags ≡ true → Behind (word_in m.memory m.cpu.sp)
-    returning_by Returns follows taken = back_way (record { known = k.state.known; back = follows; holds = k.known; are = entry.knows })
+    returning_by Returns follows taken = back_way (record { known = k.state.known; back = follows; holds = k.known; are = entry.may.knows })
     returning_by (ReturnsIf condition) follows taken = back_way (back_given condition taken follows.0)
     returning_by f follows taken = absurd (true≢false (sym taken))
 
@@ -637,10 +626,10 @@ module _ (laws : Laws) (fit : Fitting) (entered : Entry) (is_set : Bool) (rules 
 
     pointed : All (GoesToListed image.regions listed.stores.items m.cpu.pc) (pointed_bytes found.instr m.cpu.registers)
     pointed = λ j d inside. let address = get_or (pointed_bytes found.instr m.cpu.registers) j d in let p = points address (Contains-get_or (pointed_bytes found.instr m.cpu.registers) j d inside) in
-        pointed_at address p (entry.shown.stores p.span p.is)
+        pointed_at address p (entry.may.shown.stores p.span p.is)
 
     declared : found.instr ≡ Pchl → is_declared image.regions m.cpu.pc ≡ true → Contains (declared_targets image.regions m.cpu.pc) (hl_of m.cpu.registers) ⊎ Contains listed.jumps.items m.cpu.pc
-    declared is some = by (entry.shown.jumps (ap is_pchl_instr is) (subst (λ n. is_declared image.regions n ≡ true) (sym k.at) some)) where
+    declared is some = by (entry.may.shown.jumps (ap is_pchl_instr is) (subst (λ n. is_declared image.regions n ≡ true) (sym k.at) some)) where
       by : ((to : ℕ) → Within k.state.known.hl.words to → Contains (declared_targets image.regions k.state.at) to) ⊎ Contains listed.jumps.items k.state.at → Contains (declared_targets image.regions m.cpu.pc) (hl_of m.cpu.registers) ⊎ Contains listed.jumps.items m.cpu.pc
       by (inl goes) = inl (subst (λ n. Contains (declared_targets image.regions n) (hl_of m.cpu.registers)) k.at (goes (hl_of m.cpu.registers) k.known.registers.hl.words))
       by (inr there) = inr (subst (λ n. Contains listed.jumps.items n) k.at there)

@@ -37,8 +37,9 @@ use Rattle.verify80_follow.specs.Live.{enable_after, entering, executed, interru
 use Rattle.verify80_follow.proofs.{FetchLemmas.anywhere_of, FetchLemmas.fetched_here, FetchLemmas.inside_of, GroundLemmas.Ground, RelativeLemmas.fits_more, RelativeLemmas.moved}
 use Rattle.verify80_follow.proofs.CallLemmas.{Knows as KnowsCalls, begun as begun_calls, disturbs as disturbs_calls, executes as executes_calls}
 use Rattle.verify80_follow.proofs.CallLemmas.{in_main, keeps as keeps_calls, ready as ready_calls, stands as stands_calls, wakes as wakes_calls}
-use Rattle.verify80_follow.proofs.PartLemmas.{into_back, into_bytes, into_stack, into_whole, off_part, off_stack, part_below, part_inside, regions_below, same_ok, stacked_within, stands_at, two_above}
-use Rattle.verify80_follow.proofs.FollowLemmas.{Laws, disturbs as disturbs_table, enters as enters_table, executes_found, goes_on}
+use Rattle.verify80_follow.proofs.PartLemmas.{executes_moved, into_back, into_bytes, into_stack, into_whole, off_part, off_stack, part_below, part_inside, regions_below, same_ok, stacked_within, stands_at, two_above}
+use Rattle.verify80_follow.specs.StepLaws.{StepLaws}
+use Rattle.verify80_follow.proofs.FollowLemmas.{disturbs as disturbs_table, enters as enters_table, executes_found, goes_on}
 use Rattle.verify80_follow.proofs.FollowLemmas.{keeps as keeps_table, leaves, nobody, one_of, points, same_some, stays_inside, touches_stack}
 use Rattle.verify80_follow.proofs.HeldLemmas.{all_of, nothing_holds, stored_other, two_of}
 use Rattle.verify80_stores.specs.Opening.{pointer_span}
@@ -125,7 +126,7 @@ unfolding fetch_in
 fetched_small regions rules memory at found is =
     small_in regions.code at (front_of IsInMemory regions.code (regions.stack ∷ regions.data_ranges) rules.in_memory) (tested (in_code regions at) (admitted_if_used (in_code regions) at (decoded (slice_index memory at) (slice_index memory (ahead at 1)) (slice_index memory (ahead at 2)))) found is)
 
-module _ (laws : Laws) (grounds : (regions : Areas) → AreRegions regions → Ground regions) (image : Located) (quiet : ℕ → Bool) (is_set : Bool) (handlers places : List ℕ) (ways : List Way) (listed : Listed) (main : ℕ) (inner : HandlerBounds) (rules : AreRegions image.regions)
+module _ (laws : StepLaws) (grounds : (regions : Areas) → AreRegions regions → Ground regions) (image : Located) (quiet : ℕ → Bool) (is_set : Bool) (handlers places : List ℕ) (ways : List Way) (listed : Listed) (main : ℕ) (inner : HandlerBounds) (rules : AreRegions image.regions)
     (quiet_data : (at : ℕ) → quiet at ≡ true → in_data image.regions at ≡ true) (loud : (at : ℕ) → quiet at ≡ true → inner.written at ≡ false) (mtable : List FollowedState) (main_fits : Follows image true quiet is_set (ways_of ways places) listed mtable main)
     (placed : (at : ℕ) → Contains (places_among mtable main_fits.summaries) at → Contains places at)
     (tables : (h : ℕ) → Contains handlers h → HandlesAmong image mtable inner.written quiet inner.ways places listed inner.bytes h) (room : main + inner.bytes ≤ image.regions.stack.length) where
@@ -279,16 +280,7 @@ module _ (laws : Laws) (grounds : (regions : Areas) → AreRegions regions → G
         -- an instruction of it
         module _ (v : World) (by : Executes image.regions (IsLeftOpenAt listed) w v) where
           abbrev by_part : Executes part.regions (IsLeftOpenAt listed) w v
-          by_part = record {
-            found = by.found;
-            byte = by.byte;
-            after = by.after;
-            fetched = by.fetched;
-            small = by.small;
-            inside = λ at. record { stores = (by.inside at).stores; jumps = (by.inside at).jumps };
-            goes = by.goes;
-            is = by.is;
-          }
+          by_part = executes_moved image (part_below image.regions x.count) (IsLeftOpenAt listed) w v by
 
           by_found : by.found ≡ fits.stands.found
           by_found = same_some by.found found (sym by.fetched ∙ anywhere) ∙ found_same
@@ -880,5 +872,5 @@ module _ (laws : Laws) (grounds : (regions : Areas) → AreRegions regions → G
         keeps_handler start pc whole code held top u flag w known.1,
       )
 
-pub live_promise : Laws → ((regions : Areas) → AreRegions regions → Ground regions) → LiveMachinesKeepThePromise
+pub live_promise : StepLaws → ((regions : Areas) → AreRegions regions → Ground regions) → LiveMachinesKeepThePromise
 live_promise laws grounds image quiet is_set handlers places ways listed mtable main inner rules quiet_data loud main_fits placed tables room = live_keeps laws grounds image quiet is_set handlers places ways listed main inner rules quiet_data loud mtable main_fits placed tables room

@@ -103,10 +103,7 @@ abbrev stands_more : (fit : Fitting) (range : Range) (s : FollowedState) → Sta
 stands_more fit range s stands = record {
   found = stands.found;
   executed = record { fetched = stands.executed.fetched; stores = stands.executed.stores; halts = stands.executed.halts };
-  serves = stands.serves;
-  shown = record { stores = stands.shown.stores; jumps = stands.shown.jumps };
-  depth = stands.depth;
-  knows = stands.knows;
+  may = record { serves = stands.may.serves; shown = record { stores = stands.may.shown.stores; jumps = stands.may.shown.jumps }; depth = stands.may.depth; knows = stands.may.knows };
 }
 
 -- a state that fits

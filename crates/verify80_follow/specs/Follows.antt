@@ -166,14 +166,18 @@ pub record IsShownOrListed (regions : Areas) (listed : Listed) (instr : Instr) (
   pub jumps : is_pchl instr ≡ true → is_declared regions s.at ≡ true →
       ((to : ℕ) → Within s.known.hl.words to → Contains (declared_targets regions s.at) to) ⊎ Contains listed.jumps.items s.at
 
--- a state stands at an instruction of the image that may be executed there; an interrupted program lets interrupts in only once SP is set
+-- an instruction may be executed in a state; an interrupted program lets interrupts in only once SP is set
+pub record MayStand (fit : Fitting) (instr : Instr) (s : FollowedState) : Type 0 where
+  pub serves : fit.interrupted ≡ true → instr ≡ Ei → IsSome (stack_of s)
+  pub shown : IsShownOrListed fit.image.regions fit.listed instr s
+  pub depth : IfSome (stack_of s) (λ stack. length stack ≤ fit.bytes)
+  pub knows : IsQuietKnown fit.quiet s.known
+
+-- a state stands at an instruction of the image that may be executed there
 pub record StateStands (fit : Fitting) (s : FollowedState) : Type 0 where
   pub found : Fetched
   pub executed : IsExecuted fit.image fit.interrupted s.at found
-  pub serves : fit.interrupted ≡ true → found.instr ≡ Ei → IsSome (stack_of s)
-  pub shown : IsShownOrListed fit.image.regions fit.listed found.instr s
-  pub depth : IfSome (stack_of s) (λ stack. length stack ≤ fit.bytes)
-  pub knows : IsQuietKnown fit.quiet s.known
+  pub may : MayStand fit found.instr s
 
 -- a state fits: what its instruction makes of it is covered where that leads
 pub record StateFollows (bounds : StackBounds) (fit : Fitting) (s : FollowedState) : Type 0 where

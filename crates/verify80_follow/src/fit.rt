@@ -6,7 +6,7 @@ ghost use Rattle.image80.specs.{Image.memory_of, Regions.AreRegions, Regions.in_
 ghost use Rattle.verify80_spans.specs.Span.{Within, ByteWithin, IsInside, byte_alone};
 ghost use Rattle.verify80_states.specs.{Known.IsKnownInside, Known.IsQuietKnown, Known.cut, Known.nothing_known, Following.known_after, Marks.is_marked, QuietBoards.is_quiet, Steps.AreCodeBytes};
 ghost use Rattle.verify80_follow.specs.Follows.{Covers, CoversStack, CoversThen, Follows, FollowsBy, Has, IsBehindCall, IsWay};
-ghost use Rattle.verify80_follow.specs.Follows.{JumpsBy, IsExecuted, IsShownOrListed, JumpsByNumber, LeadsIf, LeadsTo, LeavesHalt, ways_of};
+ghost use Rattle.verify80_follow.specs.Follows.{JumpsBy, IsExecuted, IsShownOrListed, JumpsByNumber, LeadsIf, LeadsTo, LeavesHalt, MayStand, ways_of};
 ghost use Rattle.verify80_follow.specs.Follows.{ReturnsLeft, ReturnsTo, StateFollows, first_stack, is_call, stack_of};
 ghost use Rattle.verify80_follow.specs.Held.{IsBesideInside, beside_then, nothing_beside};
 ghost use Rattle.verify80_follow.specs.{Fitting.IsFit, Fitting.fitting_of, Promise.PromiseOf, Reaching.places_of};
@@ -558,16 +558,18 @@ impl Fit<'_> {
 
     /// Whether an instruction may be executed in a state.
     pub(crate) fn may_stand(&self, instr: Instr, state: &FollowedState) -> bool
+        requires regions { self.now.regions.now ≡ self.now.program.now.regions }
         requires ends { AreDataEnds self.now.regions.now self.now.ends.now }
-        ensures shown { result ≡ true → IsShownOrListed self.now.regions.now self.now.listed.now instr state.now }
-        ensures serves { result ≡ true → self.now.interrupted ≡ true → instr ≡ Ei → IsSome (stack_of state.now) }
-        ensures depth { result ≡ true → IfSome (stack_of state.now) (λ stack. length stack ≤ self.now.bytes) }
-        ensures knows { result ≡ true → IsQuietKnown (is_marked self.now.quiet.now) state.now.known }
+        ensures { result ≡ true → MayStand (fitting_of self.now) instr state.now }
     {
-        state.known.is_quiet(self.quiet)
-            && is_within(state.bytes(), self.bytes)
-            && self.is_shown_or_listed(instr, state)
-            && self.serves(instr, state)
+        if !state.known.is_quiet(self.quiet)
+            || !is_within(state.bytes(), self.bytes)
+            || !self.is_shown_or_listed(instr, state)
+            || !self.serves(instr, state)
+        {
+            return false;
+        }
+        true
     }
 
     /// Whether a state fits the instruction at its address.

@@ -12,22 +12,22 @@ pub returns : goal.returns
 returns c =
     let image = c.args.image.now in
     let handler = c.args.handler.now in
-    let listed = c.args.listed.now in
+    let listed = c.args.around.listed.now in
     let main = c.args.around.main.now in
     let written = is_marked c.args.around.writes.marks.now in
     let quiet = is_marked c.args.looked.quiet.now in
     let code = c.args.looked.code.now in
     let bytes = handler.table.bytes in
     let states = c.deref.result.now in
-    let places = c.args.places.now in
+    let places = c.args.around.places.now in
     let ways = c.deref-3.result.now in
     let all = ways_of ways places in
     let same : c.in_ok-program.program ≡ image = c.in_ok-program.ensures in
     let bounds : StackBounds = record { top = c.top.result; length = bytes } in
     let Each : Located → Type 0 = λ (i : Located). All (Handles main written bounds (handler_fitting i quiet code all listed states bytes)) states in
-    let within = c.if-table-most.false in
+    let within = c.if-table-around.false in
     ok_maps c.all_handle.result (λ f. f ≡ true → Each c.in_ok-program.program)
-    (λ f. f ≡ true → IsHandled image main written quiet places listed c.args.most handler)
+    (λ f. f ≡ true → IsHandled image main written quiet places listed c.args.around.most handler)
     (λ f handle is. record {
       of = record {
         table = states;

@@ -1,8 +1,7 @@
 use Rattle.std.specs.Prelude.{◌≡◌, true}
 use Rattle.std.proofs.Common.{refl, subst}
 use Rattle.decode80.specs.Facts.{flow}
-use Rattle.image80.specs.Regions.{Areas}
-use Rattle.verify80_follow.specs.Follows.{FollowsBy, IsShownOrListed, StateFollows}
+use Rattle.verify80_follow.specs.Follows.{FollowsBy, StateFollows}
 use Rattle.verify80_follow.proofs.FitLemmas.{ok_maps}
 use Rattle.verify80_follow.specs.Fitting.{fitting_of}
 use Rattle.verify80_follow.proofs.fit.Fit.state_follows.Goals as goal
@@ -15,13 +14,6 @@ returns c =
     ok_maps c.follows_by.result (λ f. f ≡ true → FollowsBy fit.bounds (fitting_of fit) state found (flow found.instr))
     (λ f. f ≡ true → StateFollows fit.bounds (fitting_of fit) state)
     (λ f follows is. record {
-      stands = record {
-        found = found;
-        executed = c.in-Some.ensures.executed;
-        serves = c.if-not-may_stand.ensures.serves refl;
-        shown = subst (λ (r : Areas). IsShownOrListed r fit.listed.now found.instr state) c.requires.regions (c.if-not-may_stand.ensures.shown refl);
-        depth = c.if-not-may_stand.ensures.depth refl;
-        knows = c.if-not-may_stand.ensures.knows refl;
-      };
+      stands = record { found = found; executed = c.in-Some.ensures.executed; may = c.if-not-may_stand.ensures refl };
       follows = follows is;
     }) c.follows_by.ensures
