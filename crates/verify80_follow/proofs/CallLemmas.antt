@@ -22,7 +22,7 @@ use Rattle.verify80_spans.specs.declared.byte_span.ByteSpan.{ByteSpan}
 use Rattle.verify80_spans.specs.Span.{ByteWithin}
 use Rattle.verify80_states.specs.{Bytes.HoldsBytes, Known.nothing_known, QuietBoards.StaysQuiet, Steps.HasCode, Steps.is_taken}
 use Rattle.verify80_states.specs.Invariants.{invariant_is_kept}
-use Rattle.verify80_follow.specs.declared.{calls.Summary.Summary, followed.FollowedState.FollowedState, followed.Listed.Listed, followed.Way.Way, stack.StackBounds.StackBounds}
+use Rattle.verify80_follow.specs.declared.{calls.Summary.Summary, followed.FollowedState.FollowedState, followed.Listed.Listed, stack.StackBounds.StackBounds}
 use Rattle.verify80_follow.specs.InterruptedBoards.{OnInterruptedBoard, Wakes, begins, disturbed, enabled_after, executed, woken}
 use Rattle.verify80_follow.specs.Stack.{HoldsFrom, HoldsStack, bounds_of, pointer_at}
 use Rattle.verify80_follow.specs.Held.{Entry, HoldsBeside, HoldsPairHeld, HoldsSaved, count_of, no_pair}

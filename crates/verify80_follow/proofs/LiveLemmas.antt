@@ -18,7 +18,7 @@ use Rattle.image80.specs.{Image.Located, Image.memory_of, Range.IsInMemory, Rang
 use Rattle.image80.specs.{Regions.Areas, Regions.held, Regions.in_code, Regions.in_data, Regions.targets_at, Regions.top_of}
 use Rattle.image80.specs.declared.range.Range.{Range}
 use Rattle.machine80.specs.{Cpu.hl_of, Effects.byte_in, Effects.pointed_bytes, Effects.stack_bytes, Effects.stored, Effects.stores}
-use Rattle.machine80.specs.{Effects.target, Effects.word_in, FactsLaws.stacked_by, World.IsJustBelow, World.World}
+use Rattle.machine80.specs.{Effects.target, Effects.word_in, FactsLaws.stacked_by, World.World}
 use Rattle.machine80.specs.{World.places_after, World.returns, declared.cpu.Cpu.Cpu, declared.registers.Registers.Registers}
 use Rattle.machine80.specs.Step.{Machine, fetch, proceeded}
 use Rattle.verify80.specs.Boards.{Disturbs, Executes, IsPushed, StaysInside, fetched_anywhere, respected_pointer, sets_sp, unguarded, with_memory}

@@ -7,12 +7,12 @@ use Rattle.decode80.specs.{Facts.flow, declared.fetching.Fetched.Fetched, declar
 use Rattle.decode80.specs.declared.flow.Flow.TheVariants.{Jumps, JumpsIf, JumpsToHl, Calls, CallsIf, Returns, ReturnsIf, Halts}
 use Rattle.decode80.specs.declared.instr.Instr.TheVariants.{Call, CallIf, Dad, Dcx, Lxi, Push, Rst, Sphl}
 use Rattle.decode80.specs.declared.pair.Pair.TheVariants.{Bc, De, Hl, Sp}
-use Rattle.image80.specs.{Image.Located, Image.memory_of}
+use Rattle.image80.specs.{Image.memory_of}
 use Rattle.image80.specs.declared.range.Range.{Range}
 use Rattle.verify80.specs.{LookLaws.fetch_at, Looking.is_declared}
 use Rattle.verify80_spans.specs.declared.byte_span.ByteSpan.{ByteSpan}
 use Rattle.verify80_states.specs.{declared.states.known.Known.Known, Following.known_after, Given.given}
-use Rattle.verify80_follow.specs.declared.{calls.Summary.Summary, followed.FollowedState.FollowedState, followed.Listed.Listed, followed.Way.Way, stack.StackBounds.StackBounds}
+use Rattle.verify80_follow.specs.declared.{followed.FollowedState.FollowedState, stack.StackBounds.StackBounds}
 use Rattle.verify80_follow.specs.Stack.{called_on, if_true, stack_after, stack_then, top_of_stack}
 use Rattle.verify80_follow.specs.Held.{beside_then, count_of}
 use Rattle.verify80_follow.specs.Follows.{Covers, CoversThen, FollowsBy, IsWay, JumpsBy, LeadsTo, ReturnsLeft}
@@ -68,7 +68,7 @@ module _ (one other : StackBounds) (more : one.length ≤ other.length) where
       stack = c.stack;
       is = then_more found.instr taken found.next known (stack_of s) c.stack fixed enough c.is;
       depth = c.depth;
-      covers = subst (λ (k : Known). Covers fit.table to k (beside_then found.instr (stack_of s) c.stack s.beside) c.stack) (known_same code found.instr (stack_of s) known fixed enough) c.covers;
+      covers = subst (λ (k : Known). Covers fit.table to k (beside_then found.instr (stack_of s) c.stack s.beside) c.stack) (known_same fit.code found.instr (stack_of s) known fixed enough) c.covers;
     }
 
     leads_more : (taken : Bool) (to : ℕ) (left : Option Known) → LeadsTo one fit s found taken to left → LeadsTo other (moved fit range) s found taken to left

@@ -1,13 +1,12 @@
 //! Whether calls are stepped over, and summaries follow their procedures.
 
 ghost use Rattle.std.specs.Prelude.{◌≡◌, ◌≤◌, ◌+◌, Ok, Some, false, true, All, Contains, IfOk, IfSome, length};
-ghost use Rattle.std.specs.Option.{option_map};
 ghost use Rattle.decode80.specs.Facts.{flow};
 ghost use Rattle.image80.specs.Image.{memory_of};
 ghost use Rattle.verify80.specs.LookLaws.{fetch_at};
 ghost use Rattle.verify80_states.specs.Known.{nothing_known};
 ghost use Rattle.verify80_stores.specs.DataReach.{AreDataEnds};
-ghost use Rattle.verify80_follow.specs.Follows.{FitsSummary, Goes, Has, PassesBy, ReturnsBack, StateFollows, StateStands, StepsOver};
+ghost use Rattle.verify80_follow.specs.Follows.{FitsSummary, Goes, Has, PassesBy, ReturnsBack, StepsOver};
 ghost use Rattle.verify80_follow.specs.Follows.{Summarizes, beside_call, called, entered_stack, is_return, stack_of, uses_pointer};
 ghost use Rattle.verify80_follow.specs.Fitting.{fitting_of};
 ghost use Rattle.verify80_follow.specs.Held.{count_of};

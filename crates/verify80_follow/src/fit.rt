@@ -1,13 +1,13 @@
 //! Whether a table of states follows an image.
 
-ghost use Rattle.std.specs.Prelude.{◌≡◌, ◌⊎◌, ◌≤◌, ℕ, Bool, false, true, All, Any, Contains, IfOk, IfSome, IsSome, [], length};
+ghost use Rattle.std.specs.Prelude.{◌≡◌, ◌⊎◌, ◌≤◌, ℕ, false, true, Any, Contains, IfOk, IfSome, IsSome, [], length};
 ghost use Rattle.std.specs.Option.{option_map};
 ghost use Rattle.image80.specs.{Image.memory_of, Regions.AreRegions, Regions.in_data};
 ghost use Rattle.verify80_spans.specs.Span.{Within, ByteWithin, IsInside, byte_alone};
-ghost use Rattle.verify80_states.specs.{Known.IsKnownInside, Known.IsQuietKnown, Known.cut, Known.nothing_known, Following.known_after, Marks.is_marked, QuietBoards.is_quiet, Steps.AreCodeBytes};
+ghost use Rattle.verify80_states.specs.{Known.IsKnownInside, Known.cut, Known.nothing_known, Following.known_after, Marks.is_marked, QuietBoards.is_quiet, Steps.AreCodeBytes};
 ghost use Rattle.verify80_follow.specs.Follows.{Covers, CoversStack, CoversThen, Follows, FollowsBy, Has, IsBehindCall, IsWay};
 ghost use Rattle.verify80_follow.specs.Follows.{JumpsBy, IsExecuted, IsShownOrListed, JumpsByNumber, LeadsIf, LeadsTo, LeavesHalt, MayStand, ways_of};
-ghost use Rattle.verify80_follow.specs.Follows.{ReturnsLeft, ReturnsTo, StateFollows, first_stack, is_call, stack_of};
+ghost use Rattle.verify80_follow.specs.Follows.{ReturnsLeft, StateFollows, first_stack, is_call, stack_of};
 ghost use Rattle.verify80_follow.specs.Held.{IsBesideInside, beside_then, nothing_beside};
 ghost use Rattle.verify80_follow.specs.{Fitting.IsFit, Fitting.fitting_of, Promise.PromiseOf, Reaching.places_of};
 ghost use Rattle.verify80_follow.specs.Stack.{IsStackInside, after_of, bounds_of};
@@ -666,7 +666,7 @@ fn follows_marked(
     fits(alloc, image, table, &places, code, quiet, run)
 }
 
-/// By address the number of a place there, if there is one: 65,536 entries.
+/// By address the number of a place there: 65,536 entries. It is 0 elsewhere, too: who looks a number up compares the place's own address.
 pub(crate) fn number_places(alloc: Global, places: &[u16]) -> Result<Vec<u32>, AllocError> {
     let mut numbers = vec![in alloc; 0; 65_536]?;
     for (number, place) in places.iter().enumerate() {

@@ -1,5 +1,5 @@
 use Rattle.std.specs.Prelude.{◌≡◌, true}
-use Rattle.std.proofs.Common.{ap, refl, subst, sym, ◌∙◌}
+use Rattle.std.proofs.Common.{ap, refl, sym, ◌∙◌}
 use Rattle.decode80.specs.Facts.{flow}
 use Rattle.verify80_follow.specs.Follows.{PassesBy, ReturnsBack, is_return}
 use Rattle.verify80_follow.proofs.FitLemmas.{ok_maps}

@@ -1,5 +1,5 @@
 use Rattle.std.specs.Prelude.{◌≡◌, true}
-use Rattle.std.proofs.Common.{refl, subst}
+use Rattle.std.proofs.Common.{refl}
 use Rattle.decode80.specs.Facts.{flow}
 use Rattle.verify80_follow.specs.Follows.{FollowsBy, StateFollows}
 use Rattle.verify80_follow.proofs.FitLemmas.{ok_maps}
