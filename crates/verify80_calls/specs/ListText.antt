@@ -10,6 +10,8 @@ use Rattle.frames80.specs.declared.procedure.Procedure.{Procedure}
 use Rattle.frames80.specs.declared.procedure.Procedure.TheVariants.{Main, Entry}
 use Rattle.verify80_calls.specs.declared.calls.Call.{Call}
 use Rattle.verify80_calls.specs.declared.graph.call_graph.Node.{Node}
+use Rattle.verify80_calls.specs.declared.graph.chain.Link.{Link}
+use Rattle.verify80_calls.specs.Chain.{chain_of}
 use Rattle.verify80_calls.specs.Nodes.{needs}
 
 -- a text, and an address behind it
@@ -60,3 +62,11 @@ node_lines image publics nodes node = node_line image publics node ++ flat_map (
 
 abbrev pub list_text : Located → List Public → List Node → List ℕ
 list_text image publics nodes = flat_map (node_lines image publics nodes) nodes
+
+-- ---- the calls that add up to the main program's bound
+
+abbrev pub link_line : Located → List Public → List Node → Link → List ℕ
+link_line image publics nodes link = call_line image publics nodes link.call
+
+abbrev pub chain_text : Located → List Public → List Node → List ℕ
+chain_text image publics nodes = flat_map (link_line image publics nodes) (chain_of nodes)

@@ -2,10 +2,11 @@
 
 ghost use Rattle.std.specs.Prelude.{◌≡◌, ◌++◌, IfOk, OnOk};
 ghost use Rattle.std.specs.List.{flat_map};
-ghost use Rattle.verify80_calls.specs.ListText.{call_line, depth_text, list_text, needs_text, node_line, node_lines};
+ghost use Rattle.verify80_calls.specs.ListText.{call_line, chain_text, depth_text, link_line, list_text, needs_text, node_line, node_lines};
 
 use crate::Call;
 use crate::graph::call_graph::{CallGraph, Node};
+use crate::graph::chain::{Link, chain_of};
 use crate::graph::needs::IndexedNodes;
 use crate::graph::words::{append_address, append_bound, append_end, node_word};
 use image80::Image;
@@ -50,8 +51,47 @@ fn append_nodes(
     Ok(())
 }
 
+/// The lines of the calls that add up to the main program's bound, as [`list_text`] has them.
+///
+/// # Errors
+/// `AllocError` only if memory runs out.
+pub fn chain_text(
+    alloc: Global,
+    image: &Image,
+    publics: &PublicTable,
+    nodes: &[Node],
+) -> Result<Vec<u8>, AllocError>
+    ensures { IfOk result (λ text. text.items ≡ chain_text image.now publics.now nodes.now) }
+{
+    let indexed = IndexedNodes::of(alloc, nodes)?;
+    let chain = chain_of(alloc, &indexed)?;
+    let mut text = Vec::new(alloc);
+    append_links(alloc, &mut text, image, publics, &indexed, &chain)?;
+    Ok(text)
+}
+
+/// Appends the line of each call of a chain.
+fn append_links(
+    alloc: Global,
+    text: &mut Vec<u8>,
+    image: &Image,
+    publics: &PublicTable,
+    nodes: &IndexedNodes<'_>,
+    chain: &[Link],
+) -> Result<(), AllocError>
+    ensures { OnOk result (text.new.items ≡ text.old.items ++ flat_map (link_line image.now publics.now nodes.now) chain.now) }
+{
+    for link in chain {
+        append_call(alloc, text, image, publics, nodes, link.call)?;
+    }
+    Ok(())
+}
+
 /// Appends the line of a procedure: its address, bound and name.
-fn append_node_line(
+///
+/// # Errors
+/// `AllocError` only if memory runs out.
+pub fn append_node_line(
     alloc: Global,
     text: &mut Vec<u8>,
     image: &Image,
