@@ -1,5 +1,5 @@
 -- What is printed of the calls of a program, line by line. (The form of the lines is this project's own.)
-use Rattle.std.specs.Prelude.{ℕ, List, [], ◌∷◌, ◌++◌, codes}
+use Rattle.std.specs.Prelude.{ℕ, List, [], ◌∷◌, ◌++◌, codes, map}
 use Rattle.std.specs.Fmt.{decimal, signed_decimal}
 use Rattle.std.specs.List.{flat_map}
 use Rattle.text80.specs.Digits.{word_text}
@@ -65,8 +65,5 @@ list_text image publics nodes = flat_map (node_lines image publics nodes) nodes
 
 -- ---- the calls that add up to the main program's bound
 
-abbrev pub link_line : Located → List Public → List Node → Link → List ℕ
-link_line image publics nodes link = call_line image publics nodes link.call
-
 abbrev pub chain_text : Located → List Public → List Node → List ℕ
-chain_text image publics nodes = flat_map (link_line image publics nodes) (chain_of nodes)
+chain_text image publics nodes = flat_map (call_line image publics nodes) (map (λ (link : Link). link.call) (chain_of nodes))

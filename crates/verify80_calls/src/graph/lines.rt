@@ -1,8 +1,8 @@
 //! The calls of a program, line by line.
 
-ghost use Rattle.std.specs.Prelude.{◌≡◌, ◌++◌, IfOk, OnOk};
+ghost use Rattle.std.specs.Prelude.{◌≡◌, ◌++◌, IfOk, OnOk, map};
 ghost use Rattle.std.specs.List.{flat_map};
-ghost use Rattle.verify80_calls.specs.ListText.{call_line, chain_text, depth_text, link_line, list_text, needs_text, node_line, node_lines};
+ghost use Rattle.verify80_calls.specs.ListText.{call_line, chain_text, depth_text, list_text, needs_text, node_line, node_lines};
 
 use crate::Call;
 use crate::graph::call_graph::{CallGraph, Node};
@@ -65,26 +65,17 @@ pub fn chain_text(
 {
     let indexed = IndexedNodes::of(alloc, nodes)?;
     let chain = chain_of(alloc, &indexed)?;
+    let calls = calls_of(alloc, &chain)?;
     let mut text = Vec::new(alloc);
-    append_links(alloc, &mut text, image, publics, &indexed, &chain)?;
+    append_calls(alloc, &mut text, image, publics, &indexed, &calls)?;
     Ok(text)
 }
 
-/// Appends the line of each call of a chain.
-fn append_links(
-    alloc: Global,
-    text: &mut Vec<u8>,
-    image: &Image,
-    publics: &PublicTable,
-    nodes: &IndexedNodes<'_>,
-    chain: &[Link],
-) -> Result<(), AllocError>
-    ensures { OnOk result (text.new.items ≡ text.old.items ++ flat_map (link_line image.now publics.now nodes.now) chain.now) }
+/// The calls of a chain. `AllocError` if memory runs out.
+fn calls_of(alloc: Global, chain: &[Link]) -> Result<Vec<Call>, AllocError>
+    ensures { IfOk result (λ calls. calls.items ≡ map (λ link. link.call) chain.now) }
 {
-    for link in chain {
-        append_call(alloc, text, image, publics, nodes, link.call)?;
-    }
-    Ok(())
+    chain.iter().map(|link| link.call).collect(alloc)
 }
 
 /// Appends the line of a procedure: its address, bound and name.
