@@ -96,10 +96,6 @@ pub trait Console {
     fn blame<F: Display + Drop>(&mut self, fault: F) -> Reported
         ensures { journal self.new ≡ and_blamed (journal self.old) };
 
-    /// Prints a fault of the file of this path on standard error, with the path before it, of which no contract says that it is there.
-    fn report_unproved<F: Display + Drop>(&mut self, path: &str, fault: F) -> Reported
-        ensures { journal self.new ≡ and_reported (journal self.old) };
-
     /// Prints an error of clap on standard error that doesn't blame the words of the command line, or that memory runs out for it.
     fn report_usage(&mut self, error: &clap::Error) -> Reported
         ensures { journal self.new ≡ and_reported (journal self.old) };

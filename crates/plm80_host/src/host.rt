@@ -182,12 +182,6 @@ impl<'a> Console for HostConsole<'a> {
         reported
     }
 
-    fn report_unproved<F: Display + Drop>(&mut self, path: &str, fault: F) -> Reported {
-        let reported = self.print_fault(format_args!("{path} {fault}"));
-        self.note(&Note::Reported);
-        reported
-    }
-
     fn report_usage(&mut self, error: &clap::Error) -> Reported {
         match self.usage(error) {
             Some(reported) => {
