@@ -22,7 +22,7 @@ use Rattle.verify80_spans.specs.declared.byte_span.ByteSpan.{ByteSpan}
 use Rattle.verify80_spans.specs.Span.{ByteWithin}
 use Rattle.verify80_states.specs.{Bytes.HoldsBytes, Known.nothing_known, QuietBoards.StaysQuiet, Steps.HasCode, Steps.is_taken}
 use Rattle.verify80_states.specs.Invariants.{invariant_is_kept}
-use Rattle.verify80_follow.specs.declared.{calls.Summary.Summary, followed.FollowedState.FollowedState, followed.Listed.Listed, followed.Way.Way, stack.StackBounds.StackBounds}
+use Rattle.verify80_follow.specs.declared.{calls.Summary.Summary, followed.FollowedState.FollowedState, followed.Listed.Listed, stack.StackBounds.StackBounds}
 use Rattle.verify80_follow.specs.InterruptedBoards.{OnInterruptedBoard, Wakes, begins, disturbed, enabled_after, executed, woken}
 use Rattle.verify80_follow.specs.Stack.{HoldsFrom, HoldsStack, bounds_of, pointer_at}
 use Rattle.verify80_follow.specs.Held.{Entry, HoldsBeside, HoldsPairHeld, HoldsSaved, count_of, no_pair}
@@ -32,12 +32,13 @@ use Rattle.verify80_follow.specs.Handling.{on_stack}
 use Rattle.verify80_follow.specs.Live.{entering}
 use Rattle.verify80_follow.specs.Promise.{FollowedProgramsKeepThePromise, IsLeftOpenAt, IsOnStack, IsReady, KeepsFollowed, KnowsWorld, PromiseOfFollowed, PromiseOfInterrupted}
 use Rattle.verify80_follow.proofs.{GroundLemmas.Ground, HeldLemmas.all_of, HeldLemmas.two_of, PlaceLemmas.inner_placed, PlaceLemmas.main_placed, RelativeLemmas.summary_more}
-use Rattle.verify80_follow.proofs.FollowLemmas.{Laws, anywhere, begun as begun_table, bounded, direct as direct_in}
+use Rattle.verify80_follow.specs.StepLaws.{StepLaws}
+use Rattle.verify80_follow.proofs.FollowLemmas.{anywhere, begun as begun_table, bounded, direct as direct_in}
 use Rattle.verify80_follow.proofs.FollowLemmas.{disturbs as disturbs_table, enters, executes_found, executes_passed}
 use Rattle.verify80_follow.proofs.FollowLemmas.{keeps as keeps_table, keeps_by, nobody, one_of, same_some, stays_inside, touches_stack, wakes_found}
 use Rattle.verify80_follow.proofs.GuardLemmas.{Touches, at_count}
-use Rattle.verify80_follow.proofs.PartLemmas.{byte_kept, into_back, into_bytes, into_stack, into_whole, off_part, off_stack, part_below, part_inside, regions_below, two_above}
-use Rattle.verify80_follow.specs.Follows.{Ways, ways_of}
+use Rattle.verify80_follow.proofs.PartLemmas.{byte_kept, executes_moved, into_back, into_bytes, into_stack, into_whole, off_part, off_stack, part_below, part_inside, regions_below, two_above}
+use Rattle.verify80_follow.specs.Follows.{Fitting, Ways, fitting, summary_fitting, ways_of}
 use Rattle.verify80_follow.proofs.StackLemmas.{next_pointer, on_stack as on_part, pointer_below, pointer_is, range_high}
 
 -- a call that is taken, and a return
@@ -146,7 +147,7 @@ nothing_but b e back count m holds = record { psw = none Psw; bc = none StackBc;
   none : (pair : StackPair) → HoldsPairHeld b e pair no_pair count m
   none pair = record { in_place = λ is. cc; saved = tt }
 
-module _ (laws : Laws) (grounds : (regions : Areas) → AreRegions regions → Ground regions) (image : Located) (interrupted : Bool) (quiet : ℕ → Bool) (is_set : Bool) (ways : Ways) (listed : Listed) (table : List FollowedState) (bytes : ℕ)
+module _ (laws : StepLaws) (grounds : (regions : Areas) → AreRegions regions → Ground regions) (image : Located) (interrupted : Bool) (quiet : ℕ → Bool) (is_set : Bool) (ways : Ways) (listed : Listed) (table : List FollowedState) (bytes : ℕ)
     (rules : AreRegions image.regions) (quiet_data : (at : ℕ) → quiet at ≡ true → in_data image.regions at ≡ true) (fits : Follows image interrupted quiet is_set ways listed table bytes) (few : bytes ≤ image.regions.stack.length)
     (all_placed : (at : ℕ) → Contains (places_among table fits.summaries) at → Contains ways.places at) where
   abbrev ground : Ground image.regions
@@ -164,10 +165,17 @@ module _ (laws : Laws) (grounds : (regions : Areas) → AreRegions regions → G
   ground_of : (n : ℕ) → Ground (part n).regions
   ground_of n = grounds (part n).regions (rules_of n)
 
+  -- what the program's table is fitted to, and that of what is executed
+  abbrev main_fitting : Fitting
+  main_fitting = fitting image interrupted quiet fits.code ways listed fits.summaries table bytes
+
+  abbrev fitting_at : Level → Fitting
+  fitting_at l = fitting (part l.base) interrupted quiet fits.code ways listed fits.summaries l.table l.most
+
   -- the states of what is executed go on; and there is room for it
   abbrev pub GoesAt : Level → FollowedState → Type 0
-  GoesAt l s = ((l.inner ≡ true) × ReturnsBack (part l.base) (bounds_of (part l.base)) interrupted quiet fits.code ways listed fits.summaries l.table l.most s)
-      ⊎ Goes (part l.base) (bounds_of (part l.base)) interrupted quiet fits.code ways listed fits.summaries l.table l.most s
+  GoesAt l s = ((l.inner ≡ true) × ReturnsBack (bounds_of (part l.base)) (fitting_at l) s)
+      ⊎ Goes (bounds_of (part l.base)) (fitting_at l) s
 
   pub record IsFit (l : Level) : Type 0 where
     pub room : l.base + l.most ≤ bytes
@@ -183,10 +191,10 @@ module _ (laws : Laws) (grounds : (regions : Areas) → AreRegions regions → G
   inner_level p n e = record { table = p.states.items; most = p.bytes; base = n; entered = e; inner = true }
 
   main_fit : IsFit main_level
-  main_fit = record { room = omega arith; outermost = λ is. refl; goes = λ j d inside. inr (subst (λ (i : Located). Goes i (bounds_of i) interrupted quiet fits.code ways listed fits.summaries table bytes (get_or table j d)) (sym whole_part) (fits.states j d inside)); enough = λ is. cc; placed = main_placed table fits.summaries }
+  main_fit = record { room = omega arith; outermost = λ is. refl; goes = λ j d inside. inr (subst (λ (i : Located). Goes (bounds_of i) (fitting i interrupted quiet fits.code ways listed fits.summaries table bytes) (get_or table j d)) (sym whole_part) (fits.states j d inside)); enough = λ is. cc; placed = main_placed table fits.summaries }
 
-  fit_of : (p : Summary) → Contains fits.summaries p → FitsSummary image interrupted quiet fits.code ways listed fits.summaries p
-  fit_of p among = All-contains (λ (q : Summary). FitsSummary image interrupted quiet fits.code ways listed fits.summaries q) fits.summaries p fits.fit among
+  fit_of : (p : Summary) → Contains fits.summaries p → FitsSummary main_fitting p
+  fit_of p among = All-contains (FitsSummary main_fitting) fits.summaries p fits.fit among
 
   inner_fit : (p : Summary) (n : ℕ) (e : Entry) → Contains fits.summaries p → n + p.bytes ≤ bytes → IsFit (inner_level p n e)
   inner_fit p n e among room = record {
@@ -197,15 +205,15 @@ module _ (laws : Laws) (grounds : (regions : Areas) → AreRegions regions → G
     placed = inner_placed table fits.summaries p among;
   }
     where
-      of : FitsSummary image interrupted quiet fits.code ways listed fits.summaries p
+      of : FitsSummary main_fitting p
       of = fit_of p among
 
       wide : of.bounds.length ≤ image.regions.stack.length - n
       wide = let less = of.room in omega (arith, less, room, few)
 
-      by : (s : FollowedState) → Summarizes image of.bounds interrupted quiet fits.code ways listed fits.summaries p.states.items p.bytes s → GoesAt (inner_level p n e) s
-      by s one = either (summary_more of.bounds (bounds_of (part n)) wide image (part_below image.regions n) interrupted quiet fits.code ways listed fits.summaries p.states.items p.bytes s one.enough one.fixed one.goes) where
-        either : ReturnsBack (part n) (bounds_of (part n)) interrupted quiet fits.code ways listed fits.summaries p.states.items p.bytes s ⊎ Goes (part n) (bounds_of (part n)) interrupted quiet fits.code ways listed fits.summaries p.states.items p.bytes s → GoesAt (inner_level p n e) s
+      by : (s : FollowedState) → Summarizes of.bounds (summary_fitting main_fitting p) s → GoesAt (inner_level p n e) s
+      by s one = either (summary_more of.bounds (bounds_of (part n)) wide (summary_fitting main_fitting p) (part_below image.regions n) s one.enough one.fixed one.goes) where
+        either : ReturnsBack (bounds_of (part n)) (fitting_at (inner_level p n e)) s ⊎ Goes (bounds_of (part n)) (fitting_at (inner_level p n e)) s → GoesAt (inner_level p n e) s
         either (inl back) = inl (refl, back)
         either (inr goes) = inr goes
 
@@ -322,7 +330,7 @@ module _ (laws : Laws) (grounds : (regions : Areas) → AreRegions regions → G
 
   pub begun : (start : Machine) → start.cpu.pc ≡ image.start → length start.memory ≡ 65536 → HasCode image start.memory → HoldsBytes start → (is_set ≡ true → start.cpu.sp ≡ top_of image.regions) → Knows is_set false (world_of start)
   begun start pc whole code held top = in_main is_set false (world_of start)
-      (begun_table laws image interrupted nobody quiet is_set ways listed table bytes rules ground quiet_data fits.code fits.are_code few fits.start start pc whole code held top)
+      (begun_table laws main_fitting nobody is_set rules ground quiet_data fits.are_code few fits.start start pc whole code held top)
 
   -- what is executed, and what of it is known
   module _ (l : Level) (fit : IsFit l) (set enabled : Bool) (w : World) (k : At l set enabled w) where
@@ -332,21 +340,21 @@ module _ (laws : Laws) (grounds : (regions : Areas) → AreRegions regions → G
     goes : GoesAt l k.state
     goes = one_of (λ s. GoesAt l s) l.table k.place k.state fit.goes k.there
 
-    stands_of : GoesAt l k.state → StateStands (part l.base) interrupted quiet listed l.most k.state
+    stands_of : GoesAt l k.state → StateStands (fitting_at l) k.state
     stands_of (inl (inner, back)) = back.stands
     stands_of (inr (inl f)) = f.stands
     stands_of (inr (inr steps)) = steps.stands
 
     -- by what is known as far as the instruction is executed
-    module _ (stood : StateStands (part l.base) interrupted quiet listed l.most k.state) where
+    module _ (stood : StateStands (fitting_at l) k.state) where
       abbrev found : Fetched
       found = stood.found
 
       here : fetched_anywhere m.memory m.cpu.pc ≡ Some found
-      here = anywhere laws (part l.base) interrupted l.entered quiet is_set ways listed l.table l.most (rules_of l.base) (ground_of l.base) quiet_data fits.code fits.are_code (few_at l fit) set enabled w k stood
+      here = anywhere laws (fitting_at l) l.entered is_set (rules_of l.base) (ground_of l.base) quiet_data fits.are_code (few_at l fit) set enabled w k stood
 
       small : found.next < 65536
-      small = (bounded laws (part l.base) interrupted l.entered quiet is_set ways listed l.table l.most (rules_of l.base) (ground_of l.base) quiet_data fits.code fits.are_code (few_at l fit) set enabled w k stood).next
+      small = (bounded laws (fitting_at l) l.entered is_set (rules_of l.base) (ground_of l.base) quiet_data fits.are_code (few_at l fit) set enabled w k stood).next
 
       abbrev TouchesPart : List ℕ → Type 0
       TouchesPart xs = All (Touches (part l.base).regions (ground_of l.base) l.most) xs
@@ -354,16 +362,7 @@ module _ (laws : Laws) (grounds : (regions : Areas) → AreRegions regions → G
       -- an instruction
       module _ (v : World) (by : Executes image.regions (IsLeftOpenAt listed) w v) where
         abbrev by_part : Executes (part l.base).regions (IsLeftOpenAt listed) w v
-        by_part = record {
-          found = by.found;
-          byte = by.byte;
-          after = by.after;
-          fetched = by.fetched;
-          small = by.small;
-          inside = λ at. record { stores = (by.inside at).stores; jumps = (by.inside at).jumps };
-          goes = by.goes;
-          is = by.is;
-        }
+        by_part = executes_moved image (part_below image.regions l.base) (IsLeftOpenAt listed) w v by
 
         same : by.found ≡ found
         same = same_some by.found found (sym by.fetched ∙ here)
@@ -372,7 +371,7 @@ module _ (laws : Laws) (grounds : (regions : Areas) → AreRegions regions → G
         goes_here = subst (λ (f : Fetched). unguarded f.instr by.byte f.next m ≡ Some by.after) same by.goes
 
         stays : StaysInside (part l.base).regions m found.instr
-        stays = stays_inside laws (part l.base) interrupted l.entered quiet is_set ways listed l.table l.most (rules_of l.base) (ground_of l.base) quiet_data fits.code fits.are_code (few_at l fit) set enabled w k stood
+        stays = stays_inside laws (fitting_at l) l.entered is_set (rules_of l.base) (ground_of l.base) quiet_data fits.are_code (few_at l fit) set enabled w k stood
             (λ at. subst (λ (f : Fetched). StaysInside (part l.base).regions m f.instr) same (by_part.inside at))
 
         memory_is : v.machine.memory ≡ by.after.memory
@@ -393,7 +392,7 @@ module _ (laws : Laws) (grounds : (regions : Areas) → AreRegions regions → G
             ap (λ (x : List ℕ). slice_index x a) memory_is
             ∙ byte_kept laws.facts found.instr by.byte found.next m by.after goes_here a
             (all_of (Touches (part l.base).regions (ground_of l.base) l.most) (λ (b : ℕ). a ≢ b) (stack_bytes found.instr m.cpu) (λ b it equal. true≢false (sym it.there ∙ ap (in_range (part l.base).regions.stack) (sym equal) ∙ out)) touches)
-            (data_apart (direct_bytes found.instr) a there (direct_in laws (part l.base) interrupted l.entered quiet is_set ways listed l.table l.most (rules_of l.base) (ground_of l.base) quiet_data fits.code fits.are_code (few_at l fit) set enabled w k stood))
+            (data_apart (direct_bytes found.instr) a there (direct_in laws (fitting_at l) l.entered is_set (rules_of l.base) (ground_of l.base) quiet_data fits.are_code (few_at l fit) set enabled w k stood))
             (data_apart (pointed_bytes found.instr m.cpu.registers) a there stays.stores)
 
         abbrev Then : World → Type 0
@@ -403,15 +402,15 @@ module _ (laws : Laws) (grounds : (regions : Areas) → AreRegions regions → G
         goes_on_here rest chain touches known = record { level = l; fit = fit; rest = rest; chain = chain_stays rest l m.memory v.machine.memory fit (off_it touches) chain; known = known }
 
         passed : (rest : List Level) → Chain rest l m.memory → (is_some (called (flow found.instr)) || is_return (flow found.instr)) ≡ true → is_taken (flow found.instr) m.cpu.registers.flags ≡ false →
-            PassesBy (part l.base) (bounds_of (part l.base)) interrupted quiet fits.code ways listed fits.summaries l.table l.most k.state found (flow found.instr) → Then v
+            PassesBy (bounds_of (part l.base)) (fitting_at l) k.state found (flow found.instr) → Then v
         passed rest chain kind off passes = goes_on_here rest chain (subst (λ (xs : List ℕ). TouchesPart xs) (sym (untouched (flow found.instr) m kind off)) (All-nil (Touches (part l.base).regions (ground_of l.base) l.most)))
-            (executes_passed laws (part l.base) interrupted l.entered quiet is_set ways listed l.table l.most (rules_of l.base) (ground_of l.base) quiet_data fits.code fits.are_code (few_at l fit) set enabled w k stood fits.summaries kind off passes v by_part same)
+            (executes_passed laws (fitting_at l) l.entered is_set (rules_of l.base) (ground_of l.base) quiet_data fits.are_code (few_at l fit) set enabled w k stood kind off passes v by_part same)
 
         set_then : set ≡ true → (set || sets_sp by.found.instr) ≡ true
         set_then is = subst (λ s. (s || sets_sp by.found.instr) ≡ true) (sym is) refl
 
     -- a call that is stepped over
-    module _ (steps : StepsOver (part l.base) (bounds_of (part l.base)) interrupted quiet fits.code ways listed fits.summaries l.table l.most k.state) where
+    module _ (steps : StepsOver (bounds_of (part l.base)) (fitting_at l) k.state) where
       abbrev p : Summary
       p = steps.summary
 
@@ -439,11 +438,11 @@ module _ (laws : Laws) (grounds : (regions : Areas) → AreRegions regions → G
       at_top : m.cpu.sp ≡ pointer_at (bounds_of (part n)) 0
       at_top = stack_here.0.pointer ∙ shifted l.base (length steps.stack) low_n ∙ ap (λ c. pointer_at (bounds_of image) c) (plus_none n) ∙ sym (shifted n 0 (omega (arith, low_n)))
 
-      fit_p : FitsSummary image interrupted quiet fits.code ways listed fits.summaries p
+      fit_p : FitsSummary main_fitting p
       fit_p = fit_of p steps.among
 
-      started : Summarizes image fit_p.bounds interrupted quiet fits.code ways listed fits.summaries p.states.items p.bytes fit_p.start.state
-      started = one_of (λ s. Summarizes image fit_p.bounds interrupted quiet fits.code ways listed fits.summaries p.states.items p.bytes s) p.states.items fit_p.start.place fit_p.start.state fit_p.states fit_p.start.there
+      started : Summarizes fit_p.bounds (summary_fitting main_fitting p) fit_p.start.state
+      started = one_of (Summarizes fit_p.bounds (summary_fitting main_fitting p)) p.states.items fit_p.start.place fit_p.start.state fit_p.states fit_p.start.there
 
       two_bytes : 2 ≤ p.bytes
       two_bytes = let enough = started.enough in let less = started.few in omega (arith, enough, less)
@@ -469,7 +468,7 @@ module _ (laws : Laws) (grounds : (regions : Areas) → AreRegions regions → G
         fit = new_fit;
         rest = l ∷ rest;
         chain = chain_stays (l ∷ rest) (inner_level p n e) m.memory (entering m next p.at).memory new_fit (λ a there out. off_part grounds image rules n low_n m next p.at (small steps.stands) at_top two_fit k.bytes k.whole a out) (waits, (fit, chain));
-        known = enters laws (part n) interrupted e quiet is_set ways listed p.states.items p.bytes (rules_of n) (ground_of n) quiet_data fits.code fits.are_code (few_at (inner_level p n e) new_fit) (set || sets_sp by.found.instr) (enabled_after by.found.instr enabled)
+        known = enters laws (fitting_at (inner_level p n e)) e is_set (rules_of n) (ground_of n) quiet_data fits.are_code (few_at (inner_level p n e) new_fit) (set || sets_sp by.found.instr) (enabled_after by.found.instr enabled)
             (beside_call (Some 2)) (record { machine = entering m next p.at; places = places steps.stands v by }) nothing_known entered_stack fit_p.start (λ is. refl)
             (nothing_but (bounds_of (part n)) e (Some 2) 2 (entering m next p.at) (into_back grounds image rules n low_n m next p.at (small steps.stands) at_top two_fit k.bytes k.whole))
             (λ on is. refl) (laws.holds (entering m next p.at) held).nothing
@@ -503,18 +502,18 @@ module _ (laws : Laws) (grounds : (regions : Areas) → AreRegions regions → G
             (subst (λ a. Touches (part l.base).regions (ground_of l.base) l.most a) (sym (ap (λ a. behind a 2) stack_here.0.pointer ∙ below.1)) (at_count (part l.base).regions (ground_of l.base) l.most (length steps.stack + 2) (omega arith) room_two (omega (arith, room_two, less)))))
 
       keeps_call : KeepsFollowed (part l.base) interrupted l.most ways listed w
-      keeps_call = keeps_by laws (part l.base) interrupted l.entered quiet is_set ways listed l.table l.most (rules_of l.base) (ground_of l.base) quiet_data fits.code fits.are_code (few_at l fit) set enabled w k steps.stands
+      keeps_call = keeps_by laws (fitting_at l) l.entered is_set (rules_of l.base) (ground_of l.base) quiet_data fits.are_code (few_at l fit) set enabled w k steps.stands
           (λ taken. absurd (calls_no_return (flow steps.stands.found.instr) p.at m.cpu.registers.flags steps.calls taken))
           (λ is none. absurd (no_pchl (flow steps.stands.found.instr) steps.stands.found.instr refl (call_kind (flow steps.stands.found.instr) p.at steps.calls) is))
           call_touches
 
     -- a return from what a call steps over
-    module _ (back : ReturnsBack (part l.base) (bounds_of (part l.base)) interrupted quiet fits.code ways listed fits.summaries l.table l.most k.state) where
+    module _ (back : ReturnsBack (bounds_of (part l.base)) (fitting_at l) k.state) where
       two_here : (m.cpu.sp ≡ pointer_at (bounds_of (part l.base)) 2) × (set ≡ true)
       two_here = two_stand (bounds_of (part l.base)) m.cpu.sp m.memory set (stack_of k.state) back.alone k.stack
 
       two_most : 2 ≤ l.most
-      two_most = two_deep l.most (stack_of k.state) back.alone back.stands.depth
+      two_most = two_deep l.most (stack_of k.state) back.alone back.stands.may.depth
 
       next_up : ahead m.cpu.sp 1 ≡ pointer_at (bounds_of (part l.base)) 1
       next_up = ap (λ a. ahead a 1) two_here.0 ∙ next_pointer (part l.base).regions (ground_of l.base) 1 (let less = few_at l fit in omega (arith, less, two_most))
@@ -541,7 +540,7 @@ module _ (laws : Laws) (grounds : (regions : Areas) → AreRegions regions → G
 
       module _ (outer : Level) (rest : List Level) (x : Waits outer l m.memory) (outer_fit : IsFit outer) (chain : Chain rest outer m.memory) where
         keeps_return : KeepsFollowed (part l.base) interrupted l.most ways listed w
-        keeps_return = keeps_by laws (part l.base) interrupted l.entered quiet is_set ways listed l.table l.most (rules_of l.base) (ground_of l.base) quiet_data fits.code fits.are_code (few_at l fit) set enabled w k back.stands
+        keeps_return = keeps_by laws (fitting_at l) l.entered is_set (rules_of l.base) (ground_of l.base) quiet_data fits.are_code (few_at l fit) set enabled w k back.stands
             (λ taken. inl (subst (λ a. IsBehindCall (part l.base) ways.places a) (sym back_is) (record { at = x.behind.at; placed = x.behind.placed; found = x.behind.found; fetched = x.behind.fetched; calls = x.behind.calls; next = x.behind.next })))
             (λ is none. absurd (no_pchl (flow back.stands.found.instr) back.stands.found.instr refl (return_kind (flow back.stands.found.instr) back.returns) is))
             return_touches
@@ -564,7 +563,7 @@ module _ (laws : Laws) (grounds : (regions : Areas) → AreRegions regions → G
           fit = outer_fit;
           rest = rest;
           chain = chain;
-          known = enters laws (part outer.base) interrupted outer.entered quiet is_set ways listed outer.table outer.most (rules_of outer.base) (ground_of outer.base) quiet_data fits.code fits.are_code (few_at outer outer_fit) (set || sets_sp by.found.instr) (enabled_after by.found.instr enabled)
+          known = enters laws (fitting_at outer) outer.entered is_set (rules_of outer.base) (ground_of outer.base) quiet_data fits.are_code (few_at outer outer_fit) (set || sets_sp by.found.instr) (enabled_after by.found.instr enabled)
               (beside_call x.back) (record { machine = returned m; places = places back.stands v by }) nothing_known (Some x.stack) (subst (λ a. Has outer.table a nothing_known (beside_call x.back) (Some x.stack)) (sym back_is) x.has) (λ is. refl)
               (nothing_but (bounds_of (part outer.base)) outer.entered x.back (length x.stack) (returned m) x.held) (λ on is. refl) (laws.holds (returned m) held_out).nothing
               (record { pointer = pointer_out; within = x.stands.within; each = subst (λ a. HoldsFrom m.memory a x.stack) (sym pointer_out) x.stands.each }, set_then back.stands v by two_here.1)
@@ -577,12 +576,12 @@ module _ (laws : Laws) (grounds : (regions : Areas) → AreRegions regions → G
           of true taken = returns_out v by taken
           of false off = passed back.stands v by (outer ∷ rest) (x, (outer_fit, chain)) (return_kind (flow back.stands.found.instr) back.returns) off back.passes
 
-    executes_back : (rest : List Level) → Chain rest l m.memory → l.inner ≡ true → ReturnsBack (part l.base) (bounds_of (part l.base)) interrupted quiet fits.code ways listed fits.summaries l.table l.most k.state →
+    executes_back : (rest : List Level) → Chain rest l m.memory → l.inner ≡ true → ReturnsBack (bounds_of (part l.base)) (fitting_at l) k.state →
         (v : World) (by : Executes image.regions (IsLeftOpenAt listed) w v) → Knows (set || sets_sp by.found.instr) (enabled_after by.found.instr enabled) v
     executes_back [] chain inner back v by = absurd (true≢false (sym inner ∙ chain))
     executes_back (outer ∷ rest) chain inner back v by = executes_return back outer rest chain.0 chain.1.0 chain.1.1 v by
 
-    keeps_back : (rest : List Level) → Chain rest l m.memory → l.inner ≡ true → ReturnsBack (part l.base) (bounds_of (part l.base)) interrupted quiet fits.code ways listed fits.summaries l.table l.most k.state → KeepsFollowed (part l.base) interrupted l.most ways listed w
+    keeps_back : (rest : List Level) → Chain rest l m.memory → l.inner ≡ true → ReturnsBack (bounds_of (part l.base)) (fitting_at l) k.state → KeepsFollowed (part l.base) interrupted l.most ways listed w
     keeps_back [] chain inner back = absurd (true≢false (sym inner ∙ chain))
     keeps_back (outer ∷ rest) chain inner back = keeps_return back outer rest chain.0 chain.1.0 chain.1.1
 
@@ -590,13 +589,13 @@ module _ (laws : Laws) (grounds : (regions : Areas) → AreRegions regions → G
     executes_at : (rest : List Level) → Chain rest l m.memory → GoesAt l k.state → (v : World) (by : Executes image.regions (IsLeftOpenAt listed) w v) → Knows (set || sets_sp by.found.instr) (enabled_after by.found.instr enabled) v
     executes_at rest chain (inl (inner, back)) v by = executes_back rest chain inner back v by
     executes_at rest chain (inr (inl f)) v by = goes_on_here f.stands v by rest chain
-        (touches_stack laws (part l.base) interrupted l.entered quiet is_set ways listed l.table l.most (rules_of l.base) (ground_of l.base) quiet_data fits.code fits.are_code (few_at l fit) set enabled w k f)
-        (executes_found laws (part l.base) interrupted l.entered quiet is_set ways listed l.table l.most (rules_of l.base) (ground_of l.base) quiet_data fits.code fits.are_code (few_at l fit) set enabled w k f v (by_part f.stands v by) (same f.stands v by))
+        (touches_stack laws (fitting_at l) l.entered is_set (rules_of l.base) (ground_of l.base) quiet_data fits.are_code (few_at l fit) set enabled w k f)
+        (executes_found laws (fitting_at l) l.entered is_set (rules_of l.base) (ground_of l.base) quiet_data fits.are_code (few_at l fit) set enabled w k f v (by_part f.stands v by) (same f.stands v by))
     executes_at rest chain (inr (inr steps)) v by = executes_call steps rest chain v by
 
     keeps_at : (rest : List Level) → Chain rest l m.memory → GoesAt l k.state → KeepsFollowed (part l.base) interrupted l.most ways listed w
     keeps_at rest chain (inl (inner, back)) = keeps_back rest chain inner back
-    keeps_at rest chain (inr (inl f)) = keeps_table laws (part l.base) interrupted l.entered quiet is_set ways listed l.table l.most (rules_of l.base) (ground_of l.base) quiet_data fits.code fits.are_code (few_at l fit) set enabled w k f
+    keeps_at rest chain (inr (inl f)) = keeps_table laws (fitting_at l) l.entered is_set (rules_of l.base) (ground_of l.base) quiet_data fits.are_code (few_at l fit) set enabled w k f
     keeps_at rest chain (inr (inr steps)) = keeps_call steps
 
     deeper : (a : ℕ) → IsJustBelow (top_of (part l.base).regions) l.most a → IsJustBelow (top_of image.regions) bytes a
@@ -642,12 +641,12 @@ module _ (laws : Laws) (grounds : (regions : Areas) → AreRegions regions → G
     -- a HLT is left
     wakes_at : GoesAt l k.state → (v : World) → interrupted ≡ true → enabled ≡ true → (by : Wakes w v) → At l set enabled v
     wakes_at (inl (inner, back)) v on may by = absurd (halts_not back.stands by (return_kind (flow back.stands.found.instr) back.returns)) where
-      halts_not : (stood : StateStands (part l.base) interrupted quiet listed l.most k.state) → (by : Wakes w v) → (is_some (called (flow stood.found.instr)) || is_return (flow stood.found.instr)) ≡ true → ⊥
+      halts_not : (stood : StateStands (fitting_at l) k.state) → (by : Wakes w v) → (is_some (called (flow stood.found.instr)) || is_return (flow stood.found.instr)) ≡ true → ⊥
       halts_not stood by kind = true≢false (sym kind ∙ ap (λ (f : Fetched). is_some (called (flow f.instr)) || is_return (flow f.instr)) (same_some stood.found by.found (sym (here stood) ∙ by.fetched)) ∙ ap (λ (i : Instr). is_some (called (flow i)) || is_return (flow i)) by.halts)
     wakes_at (inr (inr steps)) v on may by = absurd (halts_not steps.stands by (call_kind (flow steps.stands.found.instr) steps.summary.at steps.calls)) where
-      halts_not : (stood : StateStands (part l.base) interrupted quiet listed l.most k.state) → (by : Wakes w v) → (is_some (called (flow stood.found.instr)) || is_return (flow stood.found.instr)) ≡ true → ⊥
+      halts_not : (stood : StateStands (fitting_at l) k.state) → (by : Wakes w v) → (is_some (called (flow stood.found.instr)) || is_return (flow stood.found.instr)) ≡ true → ⊥
       halts_not stood by kind = true≢false (sym kind ∙ ap (λ (f : Fetched). is_some (called (flow f.instr)) || is_return (flow f.instr)) (same_some stood.found by.found (sym (here stood) ∙ by.fetched)) ∙ ap (λ (i : Instr). is_some (called (flow i)) || is_return (flow i)) by.halts)
-    wakes_at (inr (inl f)) v on may by = wakes_found laws (part l.base) interrupted l.entered quiet is_set ways listed l.table l.most (rules_of l.base) (ground_of l.base) quiet_data fits.code fits.are_code (few_at l fit) set enabled w k f v on may by
+    wakes_at (inr (inl f)) v on may by = wakes_found laws (fitting_at l) l.entered is_set (rules_of l.base) (ground_of l.base) quiet_data fits.are_code (few_at l fit) set enabled w k f v on may by
         (same_some by.found f.stands.found (sym by.fetched ∙ here f.stands))
 
     -- devices leave what lies above SP
@@ -659,7 +658,7 @@ module _ (laws : Laws) (grounds : (regions : Areas) → AreRegions regions → G
         fit = fit;
         rest = rest;
         chain = subst (λ (u : World). Chain rest l u.machine.memory) (sym by.is) (chain_stays rest l m.memory by.memory fit off_it chain);
-        known = disturbs_table laws (part l.base) interrupted l.entered quiet is_set ways listed l.table l.most (rules_of l.base) (ground_of l.base) quiet_data fits.code fits.are_code (few_at l fit) set enabled w v k (stands_of goes).knows
+        known = disturbs_table laws (fitting_at l) l.entered is_set (rules_of l.base) (ground_of l.base) quiet_data fits.are_code (few_at l fit) set enabled w v k (stands_of goes).may.knows
             (record { memory = by.memory; leaves = leaves_part; is = by.is }) still;
       }
 
@@ -670,7 +669,7 @@ module _ (laws : Laws) (grounds : (regions : Areas) → AreRegions regions → G
             at_none = ap part none ∙ whole_part
 
       disturbs_inner : (rest : List Level) → Chain rest l m.memory → 2 ≤ count_of (stack_of k.state) → Knows set enabled v
-      disturbs_inner rest chain enough = with_stack (stack_of k.state) enough k.stack (stands_of goes).depth where
+      disturbs_inner rest chain enough = with_stack (stack_of k.state) enough k.stack (stands_of goes).may.depth where
         with_stack : (o : Option (List ByteSpan)) → 2 ≤ count_of o → IfSome o (λ b. HoldsStack (bounds_of (part l.base)) b m.cpu.sp m.memory × (set ≡ true)) → IfSome o (λ b. length b ≤ l.most) → Knows set enabled v
         with_stack None two stands deep = absurd (omega (arith, two))
         with_stack (Some b) two stands deep = disturbs_at rest chain
@@ -695,7 +694,7 @@ module _ (laws : Laws) (grounds : (regions : Areas) → AreRegions regions → G
         of true inner = disturbs_inner rest chain (one_of (λ (s : FollowedState). 2 ≤ count_of (stack_of s)) l.table k.place k.state (fit.enough inner) k.there)
 
     ready_at : interrupted ≡ true → enabled ≡ true → IsReady image bytes set w
-    ready_at on may = of (stack_of k.state) (k.serves on may) k.stack (stands_of goes).depth where
+    ready_at on may = of (stack_of k.state) (k.serves on may) k.stack (stands_of goes).may.depth where
       of : (o : Option (List ByteSpan)) → IsSome o → IfSome o (λ b. HoldsStack (bounds_of (part l.base)) b m.cpu.sp m.memory × (set ≡ true)) → IfSome o (λ b. length b ≤ l.most) → IsReady image bytes set w
       of None some stands deep = cc
       of (Some b) some stands deep = let room = fit.room in record { is_set = stands.1; count = l.base + length b; few = omega (arith, deep, room); pointer = stands.0.pointer ∙ shifted l.base (length b) (omega (arith, deep, room, few)) }
@@ -752,6 +751,6 @@ module _ (laws : Laws) (grounds : (regions : Areas) → AreRegions regions → G
       let x = knows on start pc whole code held top set enabled w board in
       (all_placed w.machine.cpu.pc (stands set enabled w x), (subst (λ (b : Bool). KeepsFollowed image b bytes ways listed w) on (keeps set enabled w x), λ may. ready set enabled w x on may))
 
-pub promise : Laws → ((regions : Areas) → AreRegions regions → Ground regions) → FollowedProgramsKeepThePromise
+pub promise : StepLaws → ((regions : Areas) → AreRegions regions → Ground regions) → FollowedProgramsKeepThePromise
 promise laws grounds false image quiet is_set places ways listed table bytes rules quiet_data fits all_placed few = followed_keeps laws grounds image false quiet is_set (ways_of ways places) listed table bytes rules quiet_data fits few all_placed refl
 promise laws grounds true image quiet is_set places ways listed table bytes rules quiet_data fits all_placed few = interrupted_keeps laws grounds image true quiet is_set (ways_of ways places) listed table bytes rules quiet_data fits few all_placed refl

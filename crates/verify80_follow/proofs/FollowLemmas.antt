@@ -6,7 +6,7 @@ use Rattle.std.specs.{List.list_any, Option.option_map, Option.option_map_or}
 use Rattle.std.proofs.Common.{get_or, ap, arith, inl, inr, refl, subst, sym, true≢false, ◌∙◌}
 use Rattle.std.proofs.lemmas.{Option.get_or_from_slice_get, Option.slice_get_within, Bool.eqb-true, Bool.Decides.nat_tests, Map.Views.Contains-from_any}
 use Rattle.std.proofs.lemmas.List.Elements.{All-nil, Contains-get_or}
-use Rattle.decode80.specs.{Spelling.HasOperandInRange, Facts.flow, Facts.storing, Fetch.FetchReadsCodeAlone, Fetch.ahead}
+use Rattle.decode80.specs.{Spelling.HasOperandInRange, Facts.flow, Facts.storing, Fetch.ahead}
 use Rattle.decode80.specs.{Fetch.direct_bytes, declared.condition.Condition.Condition, declared.fetching.Fetched.Fetched}
 use Rattle.decode80.specs.{declared.flow.Flow.Flow, declared.instr.Instr.Instr, declared.pair.StackPair.StackPair}
 use Rattle.decode80.specs.declared.flow.Flow.TheVariants.{Jumps, JumpsIf, JumpsToHl, Calls, CallsIf, Returns, ReturnsIf, Halts}
@@ -16,7 +16,6 @@ use Rattle.image80.specs.{Range.in_range, Regions.AreRegions, Regions.in_code, R
 use Rattle.machine80.specs.{Cpu.hl_of, Flags.flags_byte, Flags.bit_of, Flags.holds as holds_of, Effects.byte_in, Effects.changed}
 use Rattle.machine80.specs.{Effects.goes_to, Effects.pointed_bytes, Effects.stack_bytes, Effects.stored, Effects.stores, Effects.target}
 use Rattle.machine80.specs.{Effects.touched_by, Effects.word_in, Run.world_of, declared.cpu.Cpu.Cpu, declared.flags.Flags.Flags}
-use Rattle.machine80.specs.{ArithmeticLaws.StatusWordRoundTrip, FactsLaws.InstructionsKeepToFacts}
 use Rattle.machine80.specs.Step.{Machine, guard, leads_outside, proceeded}
 use Rattle.machine80.specs.World.{World, is_return_taken, places_after}
 use Rattle.verify80.specs.Boards.{Disturbs, Executes, StaysInside, fetched_anywhere, respected_pointer, sets_sp, unguarded, LeavesProgram}
@@ -24,13 +23,13 @@ use Rattle.verify80.specs.{LookLaws.fetch_at, Looking.declared_targets, Looking.
 use Rattle.decode80.specs.Spelling.{opcode}
 use Rattle.verify80_spans.specs.declared.byte_span.ByteSpan.{ByteSpan}
 use Rattle.verify80_spans.specs.Span.{Within, ByteWithin, IsInside, any_byte, byte_alone, high_of, is_alone}
-use Rattle.verify80_states.specs.{declared.states.known.Known.Known, Bytes.FetchedOperandsAreBounded, Bytes.HasBytes}
+use Rattle.verify80_states.specs.{declared.states.known.Known.Known, Bytes.HasBytes}
 use Rattle.verify80_states.specs.{Bytes.HoldsBytes, Bytes.IsBounded, Following.known_after, Following.pushed_pair, Given.given}
 use Rattle.verify80_states.specs.{QuietBoards.StaysQuiet, Steps.AreCodeBytes, Steps.HasCode, Steps.ReadsCode, Steps.is_taken}
 use Rattle.verify80_states.specs.Known.{HoldsKnown, HoldsPair, HoldsTop, IsQuietKnown, any_pair, cut, nothing_known}
 use Rattle.verify80_states.specs.{Cells.IsQuietCell, declared.states.cells.Cell.Cell}
-use Rattle.verify80_states.specs.Laws.{ConditionsLeaveKnown, InstructionsAreFollowed, IsFollowedBy, KnownStaysQuiet, WhatHoldsOfBytes}
-use Rattle.verify80_follow.specs.declared.{calls.Summary.Summary, held.Beside.Beside, stack.StackBounds.StackBounds, followed.FollowedState.FollowedState, followed.Listed.Listed, followed.Way.Way}
+use Rattle.verify80_states.specs.Laws.{IsFollowedBy}
+use Rattle.verify80_follow.specs.declared.{held.Beside.Beside, stack.StackBounds.StackBounds, followed.FollowedState.FollowedState, followed.Listed.Listed}
 use Rattle.verify80_follow.specs.Stack.{AreBytesInside, called_on, HoldsFrom, HoldsStack, IsStackInside, bounds_of, if_true, moved_to}
 use Rattle.verify80_follow.specs.Stack.{pointer_at, return_address, set_stack, stack_after, stack_then, top_of_stack, word_on}
 use Rattle.verify80_follow.specs.InterruptedBoards.{Wakes, enabled_after, with_pc}
@@ -42,7 +41,7 @@ use Rattle.verify80_follow.specs.Promise.{GoesToListed, IsLeftOpenAt, IsOnStack,
 use Rattle.verify80_follow.proofs.{GroundLemmas.Ground, FetchLemmas.anywhere_of, FetchLemmas.fetched_here, FetchLemmas.inside_of, StackSteps.stack_holds}
 use Rattle.verify80_follow.proofs.GuardLemmas.{Touches, all_of_list, passes_guard, touched}
 use Rattle.verify80_follow.proofs.StackLemmas.{any_within, byte_at, moved_holds, on_stack, pointer_is, stays_from}
-use Rattle.verify80_follow.specs.Follows.{Ways}
+use Rattle.verify80_follow.specs.{Follows.Fitting, Follows.Ways, StepLaws.StepLaws}
 use Rattle.verify80_follow.proofs.PointLemmas.{Points, not_outside, points_by, within_outer}
 
 -- small things
@@ -264,19 +263,32 @@ declared_jump (Some targets) to some inside = by (list_any (λ target. target ==
   by true e inside = Contains-from_any {eq = λ x y. y == x} (λ x y same. sym (eqb-true y x same)) to targets e
   by false e inside = cc
 
--- the laws of the crates below that are cited
-pub record Laws : Type 0 where
-  pub instructions : InstructionsAreFollowed
-  pub conditions : ConditionsLeaveKnown
-  pub holds : WhatHoldsOfBytes
-  pub quiet : KnownStaysQuiet
-  pub reads : FetchReadsCodeAlone
-  pub bounded : FetchedOperandsAreBounded
-  pub facts : InstructionsKeepToFacts
-  pub round : StatusWordRoundTrip
+module _ (laws : StepLaws) (fit : Fitting) (entered : Entry) (is_set : Bool) (rules : AreRegions fit.image.regions) (ground : Ground fit.image.regions)
+    (quiet_data : (at : ℕ) → fit.quiet at ≡ true → in_data fit.image.regions at ≡ true) (are_code : AreCodeBytes fit.image fit.code) (few : fit.bytes ≤ fit.image.regions.stack.length) where
+  abbrev image : Located
+  image = fit.image
 
-module _ (laws : Laws) (image : Located) (interrupted : Bool) (entered : Entry) (quiet : ℕ → Bool) (is_set : Bool) (ways : Ways) (listed : Listed) (table : List FollowedState) (bytes : ℕ) (rules : AreRegions image.regions) (ground : Ground image.regions)
-    (quiet_data : (at : ℕ) → quiet at ≡ true → in_data image.regions at ≡ true) (bytes_of_code : List (Option ℕ)) (are_code : AreCodeBytes image bytes_of_code) (few : bytes ≤ image.regions.stack.length) where
+  abbrev interrupted : Bool
+  interrupted = fit.interrupted
+
+  abbrev quiet : ℕ → Bool
+  quiet = fit.quiet
+
+  abbrev bytes_of_code : List (Option ℕ)
+  bytes_of_code = fit.code
+
+  abbrev ways : Ways
+  ways = fit.ways
+
+  abbrev listed : Listed
+  listed = fit.listed
+
+  abbrev table : List FollowedState
+  table = fit.table
+
+  abbrev bytes : ℕ
+  bytes = fit.bytes
+
   abbrev Knows : (set enabled : Bool) → World → Type 0
   Knows set enabled w = KnowsWorld image interrupted entered table set enabled w
 
@@ -355,7 +367,7 @@ module _ (laws : Laws) (image : Located) (interrupted : Bool) (entered : Entry) 
   })
 
   -- a world of which one state is known
-  module _ (set enabled : Bool) (w : World) (k : KnowsWorld image interrupted entered table set enabled w) (entry : StateStands image interrupted quiet listed bytes k.state) where
+  module _ (set enabled : Bool) (w : World) (k : KnowsWorld image interrupted entered table set enabled w) (entry : StateStands fit k.state) where
     abbrev m : Machine
     m = w.machine
 
@@ -385,7 +397,7 @@ module _ (laws : Laws) (image : Located) (interrupted : Bool) (entered : Entry) 
       taken : Bool
       to : ℕ
       known : Known
-      covers : CoversThen image (bounds_of image) interrupted bytes_of_code ways table bytes k.state found taken to known
+      covers : CoversThen (bounds_of image) fit k.state found taken to known
       is : is_taken (flow found.instr) m.cpu.registers.flags ≡ taken
       holds : HoldsKnown known m
       are : IsQuietKnown quiet known
@@ -422,7 +434,7 @@ module _ (laws : Laws) (image : Located) (interrupted : Bool) (entered : Entry) 
           }
 
     stands : (t : Taken) → Stacked t.known t.taken t.covers.stack
-    stands t = stacked_by t.known t.taken (stack_of k.state) t.covers.stack t.holds t.is k.stack entry.depth t.covers.depth t.covers.is
+    stands t = stacked_by t.known t.taken (stack_of k.state) t.covers.stack t.holds t.is k.stack entry.may.depth t.covers.depth t.covers.is
 
     -- what a handler still has after it
     held_after : (byte : ℕ) (after : Machine) → unguarded found.instr byte found.next m ≡ Some after → StaysInside image.regions m found.instr → (t : Taken) →
@@ -450,7 +462,7 @@ module _ (laws : Laws) (image : Located) (interrupted : Bool) (entered : Entry) 
 
       -- interrupts may come only once SP is set
       served : (i : Instr) → found.instr ≡ i → interrupted ≡ true → enabled_after i enabled ≡ true → IsSome (stack_of k.state)
-      served Ei is on may = entry.serves on is
+      served Ei is on may = entry.may.serves on is
       served Di is on may = cc
       served i is on may = k.serves on may
 
@@ -489,37 +501,37 @@ module _ (laws : Laws) (image : Located) (interrupted : Bool) (entered : Entry) 
             with_has (cut now (byte_alone a)) ((laws.holds after followed.bytes).cuts now a followed.known refl) (each a followed.known.registers.a)
 
     -- which way that is
-    always : (taken : Bool) (to : ℕ) → CoversThen image (bounds_of image) interrupted bytes_of_code ways table bytes k.state found taken to k.state.known → is_taken (flow found.instr) m.cpu.registers.flags ≡ taken → goes_to (flow found.instr) found.next m.memory m.cpu ≡ to → Taken
-    always taken to covers is goes = record { taken = taken; to = to; known = k.state.known; covers = covers; is = is; holds = k.known; are = entry.knows; goes = goes }
+    always : (taken : Bool) (to : ℕ) → CoversThen (bounds_of image) fit k.state found taken to k.state.known → is_taken (flow found.instr) m.cpu.registers.flags ≡ taken → goes_to (flow found.instr) found.next m.memory m.cpu ≡ to → Taken
+    always taken to covers is goes = record { taken = taken; to = to; known = k.state.known; covers = covers; is = is; holds = k.known; are = entry.may.knows; goes = goes }
 
-    if_given : (condition : Condition) (b : Bool) (to : ℕ) → holds_of condition m.cpu.registers.flags ≡ b → LeadsTo image (bounds_of image) interrupted bytes_of_code ways table bytes k.state found b to (given condition b k.state.known) → is_taken (flow found.instr) m.cpu.registers.flags ≡ b →
+    if_given : (condition : Condition) (b : Bool) (to : ℕ) → holds_of condition m.cpu.registers.flags ≡ b → LeadsTo (bounds_of image) fit k.state found b to (given condition b k.state.known) → is_taken (flow found.instr) m.cpu.registers.flags ≡ b →
         goes_to (flow found.instr) found.next m.memory m.cpu ≡ to → Taken
     if_given condition b to is leads taken goes =
-        let left = laws.conditions quiet condition b k.state.known m k.bytes k.known entry.knows is in
-        record { taken = b; to = to; known = left.left; covers = subst (λ (o : Option Known). LeadsTo image (bounds_of image) interrupted bytes_of_code ways table bytes k.state found b to o) left.is leads; is = taken; holds = left.holds; are = left.are; goes = goes }
+        let left = laws.conditions quiet condition b k.state.known m k.bytes k.known entry.may.knows is in
+        record { taken = b; to = to; known = left.left; covers = subst (λ (o : Option Known). LeadsTo (bounds_of image) fit k.state found b to o) left.is leads; is = taken; holds = left.holds; are = left.are; goes = goes }
 
     -- a return that is taken
-    returned_to : (known : Known) (back : ReturnsTo image (bounds_of image) interrupted bytes_of_code ways table bytes k.state found known) → back.to ≡ word_in m.memory m.cpu.sp
+    returned_to : (known : Known) (back : ReturnsTo (bounds_of image) fit k.state found known) → back.to ≡ word_in m.memory m.cpu.sp
     returned_to known back = returns_where back.stacked back.to m.cpu.sp m.memory k.bytes.memory back.is here where
       here : HoldsFrom m.memory m.cpu.sp back.stacked
       here = (subst (λ (o : Option (List ByteSpan)). IfSome o (λ b. HoldsStack (bounds_of image) b m.cpu.sp m.memory × (set ≡ true))) back.stack k.stack).0.each
 
     record Back (condition_holds : Bool) : Type 0 where
       known : Known
-      back : ReturnsTo image (bounds_of image) interrupted bytes_of_code ways table bytes k.state found known
+      back : ReturnsTo (bounds_of image) fit k.state found known
       holds : HoldsKnown known m
       are : IsQuietKnown quiet known
 
-    back_given : (condition : Condition) → holds_of condition m.cpu.registers.flags ≡ true → ReturnsLeft image (bounds_of image) interrupted bytes_of_code ways table bytes k.state found (given condition true k.state.known) → Back true
+    back_given : (condition : Condition) → holds_of condition m.cpu.registers.flags ≡ true → ReturnsLeft (bounds_of image) fit k.state found (given condition true k.state.known) → Back true
     back_given condition is left_back =
-        let left = laws.conditions quiet condition true k.state.known m k.bytes k.known entry.knows is in
-        record { known = left.left; back = subst (λ (o : Option Known). ReturnsLeft image (bounds_of image) interrupted bytes_of_code ways table bytes k.state found o) left.is left_back; holds = left.holds; are = left.are }
+        let left = laws.conditions quiet condition true k.state.known m k.bytes k.known entry.may.knows is in
+        record { known = left.left; back = subst (λ (o : Option Known). ReturnsLeft (bounds_of image) fit k.state found o) left.is left_back; holds = left.holds; are = left.are }
 
     by_back : (b : Back true) → is_taken (flow found.instr) m.cpu.registers.flags ≡ true → goes_to (flow found.instr) found.next m.memory m.cpu ≡ word_in m.memory m.cpu.sp → Taken
     by_back b is goes = record { taken = true; to = b.back.to; known = b.known; covers = b.back.leads; is = is; holds = b.holds; are = b.are; goes = goes ∙ sym (returned_to b.known b.back) }
 
     -- HL goes where it is known to be, or to a declared target
-    by_hl : (declared : Bool) → is_declared image.regions k.state.at ≡ declared → JumpsBy image (bounds_of image) interrupted bytes_of_code ways table bytes k.state found declared → (flow found.instr ≡ JumpsToHl) → (found.instr ≡ Pchl → leads_outside (targets_at image.regions m.cpu.pc) (hl_of m.cpu.registers) ≡ false) → Taken
+    by_hl : (declared : Bool) → is_declared image.regions k.state.at ≡ declared → JumpsBy (bounds_of image) fit k.state found declared → (flow found.instr ≡ JumpsToHl) → (found.instr ≡ Pchl → leads_outside (targets_at image.regions m.cpu.pc) (hl_of m.cpu.registers) ≡ false) → Taken
     by_hl false is jumps flows inside =
         let above = k.known.registers.hl.words.above in
         let below = k.known.registers.hl.words.below in
@@ -534,7 +546,7 @@ module _ (laws : Laws) (image : Located) (interrupted : Bool) (entered : Entry) 
     abbrev JumpsInside : Type 0
     JumpsInside = found.instr ≡ Pchl → leads_outside (targets_at image.regions m.cpu.pc) (hl_of m.cpu.registers) ≡ false
 
-    way_of : (f : Flow) → flow found.instr ≡ f → f ≢ Halts → JumpsInside → FollowsBy image (bounds_of image) interrupted bytes_of_code ways table bytes k.state found f → Taken
+    way_of : (f : Flow) → flow found.instr ≡ f → f ≢ Halts → JumpsInside → FollowsBy (bounds_of image) fit k.state found f → Taken
     way_of (Jumps to) is on inside follows = always false to follows (ap (λ (f : Flow). is_taken f m.cpu.registers.flags) is) (ap (λ (f : Flow). goes_to f found.next m.memory m.cpu) is)
     way_of (JumpsIf condition to) is on inside follows = by (holds_of condition m.cpu.registers.flags) refl where
       by : (b : Bool) → holds_of condition m.cpu.registers.flags ≡ b → Taken
@@ -546,7 +558,7 @@ module _ (laws : Laws) (image : Located) (interrupted : Bool) (entered : Entry) 
       by : (b : Bool) → holds_of condition m.cpu.registers.flags ≡ b → Taken
       by true holds = if_given condition true to holds follows.0 (ap (λ (f : Flow). is_taken f m.cpu.registers.flags) is ∙ holds) (ap (λ (f : Flow). goes_to f found.next m.memory m.cpu) is ∙ ap (λ (b : Bool). if b then to else found.next) holds)
       by false holds = if_given condition false found.next holds follows.1 (ap (λ (f : Flow). is_taken f m.cpu.registers.flags) is ∙ holds) (ap (λ (f : Flow). goes_to f found.next m.memory m.cpu) is ∙ ap (λ (b : Bool). if b then to else found.next) holds)
-    way_of Returns is on inside follows = by_back (record { known = k.state.known; back = follows; holds = k.known; are = entry.knows }) (ap (λ (f : Flow). is_taken f m.cpu.registers.flags) is) (ap (λ (f : Flow). goes_to f found.next m.memory m.cpu) is)
+    way_of Returns is on inside follows = by_back (record { known = k.state.known; back = follows; holds = k.known; are = entry.may.knows }) (ap (λ (f : Flow). is_taken f m.cpu.registers.flags) is) (ap (λ (f : Flow). goes_to f found.next m.memory m.cpu) is)
     way_of (ReturnsIf condition) is on inside follows = by (holds_of condition m.cpu.registers.flags) refl where
       by : (b : Bool) → holds_of condition m.cpu.registers.flags ≡ b → Taken
       by true holds = by_back (back_given condition holds follows.0) (ap (λ (f : Flow). is_taken f m.cpu.registers.flags) is ∙ holds) (ap (λ (f : Flow). goes_to f found.next m.memory m.cpu) is ∙ ap (λ (b : Bool). if b then word_in m.memory m.cpu.sp else found.next) holds)
@@ -561,12 +573,12 @@ module _ (laws : Laws) (image : Located) (interrupted : Bool) (entered : Entry) 
     back_way : (b : Back true) → Behind (word_in m.memory m.cpu.sp)
     back_way b = subst (λ n. IsWay image ways n (word_in m.memory m.cpu.sp)) k.at (subst (λ n. IsWay image ways k.state.at n) (returned_to b.known b.back) b.back.way)
 
-    returning_by : (f : Flow) → FollowsBy image (bounds_of image) interrupted bytes_of_code ways table bytes k.state found f → is_return_taken f m.cpu.registers.flags ≡ true → Behind (word_in m.memory m.cpu.sp)
-    returning_by Returns follows taken = back_way (record { known = k.state.known; back = follows; holds = k.known; are = entry.knows })
+    returning_by : (f : Flow) → FollowsBy (bounds_of image) fit k.state found f → is_return_taken f m.cpu.registers.flags ≡ true → Behind (word_in m.memory m.cpu.sp)
+    returning_by Returns follows taken = back_way (record { known = k.state.known; back = follows; holds = k.known; are = entry.may.knows })
     returning_by (ReturnsIf condition) follows taken = back_way (back_given condition taken follows.0)
     returning_by f follows taken = absurd (true≢false (sym taken))
 
-    jumping_by : (declared : Bool) → is_declared image.regions k.state.at ≡ declared → JumpsBy image (bounds_of image) interrupted bytes_of_code ways table bytes k.state found declared → targets_at image.regions k.state.at ≡ None → Behind (hl_of m.cpu.registers)
+    jumping_by : (declared : Bool) → is_declared image.regions k.state.at ≡ declared → JumpsBy (bounds_of image) fit k.state found declared → targets_at image.regions k.state.at ≡ None → Behind (hl_of m.cpu.registers)
     jumping_by false is jumps none =
         let above = k.known.registers.hl.words.above in
         let below = k.known.registers.hl.words.below in
@@ -576,16 +588,16 @@ module _ (laws : Laws) (image : Located) (interrupted : Bool) (entered : Entry) 
     jumping_by true is jumps none = absurd (let no : is_declared image.regions k.state.at ≡ false = ap (λ (o : Option (List ℕ)). is_some o) none in true≢false (sym is ∙ no))
 
     abbrev HereFollows : Type 0
-    HereFollows = FollowsBy image (bounds_of image) interrupted bytes_of_code ways table bytes k.state found (flow found.instr)
+    HereFollows = FollowsBy (bounds_of image) fit k.state found (flow found.instr)
 
     jumping : HereFollows → found.instr ≡ Pchl → targets_at image.regions m.cpu.pc ≡ None → Behind (hl_of m.cpu.registers)
     jumping follows is none =
-        jumping_by (is_declared image.regions k.state.at) refl (subst (λ (f : Flow). FollowsBy image (bounds_of image) interrupted bytes_of_code ways table bytes k.state found f) (ap (λ (i : Instr). flow i) is) follows) (subst (λ n. targets_at image.regions n ≡ None) (sym k.at) none)
+        jumping_by (is_declared image.regions k.state.at) refl (subst (λ (f : Flow). FollowsBy (bounds_of image) fit k.state found f) (ap (λ (i : Instr). flow i) is) follows) (subst (λ n. targets_at image.regions n ≡ None) (sym k.at) none)
 
     on_stack_each : (xs : List ℕ) → All (Touches image.regions ground bytes) xs → All (IsOnStack image bytes) xs
     on_stack_each xs each = λ k d within. let it = each k d within in record { in_stack = it.there; below = it.below }
 
-    touches_by : (f : Flow) → flow found.instr ≡ f → FollowsBy image (bounds_of image) interrupted bytes_of_code ways table bytes k.state found f → All (Touches image.regions ground bytes) (stack_bytes found.instr m.cpu)
+    touches_by : (f : Flow) → flow found.instr ≡ f → FollowsBy (bounds_of image) fit k.state found f → All (Touches image.regions ground bytes) (stack_bytes found.instr m.cpu)
     touches_by Halts is follows = untouched (stack_bytes found.instr m.cpu) (ap (λ (f : Flow). touched_by f m.cpu) is)
     touches_by JumpsToHl is follows = untouched (stack_bytes found.instr m.cpu) (ap (λ (f : Flow). touched_by f m.cpu) is)
     touches_by f is follows = (stands (way_of f is (λ e. cc) (λ e. absurd (let jumps : flow found.instr ≡ JumpsToHl = ap (λ (i : Instr). flow i) e in cc)) follows)).touches
@@ -613,10 +625,10 @@ module _ (laws : Laws) (image : Located) (interrupted : Bool) (entered : Entry) 
 
     pointed : All (GoesToListed image.regions listed.stores.items m.cpu.pc) (pointed_bytes found.instr m.cpu.registers)
     pointed = λ j d inside. let address = get_or (pointed_bytes found.instr m.cpu.registers) j d in let p = points address (Contains-get_or (pointed_bytes found.instr m.cpu.registers) j d inside) in
-        pointed_at address p (entry.shown.stores p.span p.is)
+        pointed_at address p (entry.may.shown.stores p.span p.is)
 
     declared : found.instr ≡ Pchl → is_declared image.regions m.cpu.pc ≡ true → Contains (declared_targets image.regions m.cpu.pc) (hl_of m.cpu.registers) ⊎ Contains listed.jumps.items m.cpu.pc
-    declared is some = by (entry.shown.jumps (ap is_pchl_instr is) (subst (λ n. is_declared image.regions n ≡ true) (sym k.at) some)) where
+    declared is some = by (entry.may.shown.jumps (ap is_pchl_instr is) (subst (λ n. is_declared image.regions n ≡ true) (sym k.at) some)) where
       by : ((to : ℕ) → Within k.state.known.hl.words to → Contains (declared_targets image.regions k.state.at) to) ⊎ Contains listed.jumps.items k.state.at → Contains (declared_targets image.regions m.cpu.pc) (hl_of m.cpu.registers) ⊎ Contains listed.jumps.items m.cpu.pc
       by (inl goes) = inl (subst (λ n. Contains (declared_targets image.regions n) (hl_of m.cpu.registers)) k.at (goes (hl_of m.cpu.registers) k.known.registers.hl.words))
       by (inr there) = inr (subst (λ n. Contains listed.jumps.items n) k.at there)
@@ -677,21 +689,21 @@ module _ (laws : Laws) (image : Located) (interrupted : Bool) (entered : Entry) 
           goes = subst (λ (f : Fetched). unguarded f.instr by.byte f.next m ≡ Some by.after) same by.goes
 
     executes_here : HereFollows → (v : World) (by : Executes image.regions (IsLeftOpenAt listed) w v) → by.found ≡ found → Knows (set || sets_sp by.found.instr) (enabled_after by.found.instr enabled) v
-    executes_here follows v by same = executes_by v by same (λ f is on inside. way_of f is on inside (subst (λ (g : Flow). FollowsBy image (bounds_of image) interrupted bytes_of_code ways table bytes k.state found g) is follows))
+    executes_here follows v by same = executes_by v by same (λ f is on inside. way_of f is on inside (subst (λ (g : Flow). FollowsBy (bounds_of image) fit k.state found g) is follows))
 
     -- a call or a return under a condition that isn't taken
-    passed_by : (summaries : List Summary) (f : Flow) → flow found.instr ≡ f → (is_some (called f) || is_return f) ≡ true → is_taken f m.cpu.registers.flags ≡ false →
-        PassesBy image (bounds_of image) interrupted quiet bytes_of_code ways listed summaries table bytes k.state found f → Taken
-    passed_by summaries (CallsIf condition to) is kind off passes = if_given condition false found.next off passes (ap (λ (f : Flow). is_taken f m.cpu.registers.flags) is ∙ off) (ap (λ (f : Flow). goes_to f found.next m.memory m.cpu) is ∙ ap (λ (b : Bool). if b then to else found.next) off)
-    passed_by summaries (ReturnsIf condition) is kind off passes = if_given condition false found.next off passes (ap (λ (f : Flow). is_taken f m.cpu.registers.flags) is ∙ off) (ap (λ (f : Flow). goes_to f found.next m.memory m.cpu) is ∙ ap (λ (b : Bool). if b then word_in m.memory m.cpu.sp else found.next) off)
-    passed_by summaries (Calls to) is kind off passes = cc
-    passed_by summaries Returns is kind off passes = cc
-    passed_by summaries f is kind off passes = cc
+    passed_by : (f : Flow) → flow found.instr ≡ f → (is_some (called f) || is_return f) ≡ true → is_taken f m.cpu.registers.flags ≡ false →
+        PassesBy (bounds_of image) fit k.state found f → Taken
+    passed_by (CallsIf condition to) is kind off passes = if_given condition false found.next off passes (ap (λ (f : Flow). is_taken f m.cpu.registers.flags) is ∙ off) (ap (λ (f : Flow). goes_to f found.next m.memory m.cpu) is ∙ ap (λ (b : Bool). if b then to else found.next) off)
+    passed_by (ReturnsIf condition) is kind off passes = if_given condition false found.next off passes (ap (λ (f : Flow). is_taken f m.cpu.registers.flags) is ∙ off) (ap (λ (f : Flow). goes_to f found.next m.memory m.cpu) is ∙ ap (λ (b : Bool). if b then word_in m.memory m.cpu.sp else found.next) off)
+    passed_by (Calls to) is kind off passes = cc
+    passed_by Returns is kind off passes = cc
+    passed_by f is kind off passes = cc
 
-    pub executes_passed : (summaries : List Summary) → (is_some (called (flow found.instr)) || is_return (flow found.instr)) ≡ true → is_taken (flow found.instr) m.cpu.registers.flags ≡ false →
-        PassesBy image (bounds_of image) interrupted quiet bytes_of_code ways listed summaries table bytes k.state found (flow found.instr) → (v : World) (by : Executes image.regions (IsLeftOpenAt listed) w v) → by.found ≡ found →
+    pub executes_passed : (is_some (called (flow found.instr)) || is_return (flow found.instr)) ≡ true → is_taken (flow found.instr) m.cpu.registers.flags ≡ false →
+        PassesBy (bounds_of image) fit k.state found (flow found.instr) → (v : World) (by : Executes image.regions (IsLeftOpenAt listed) w v) → by.found ≡ found →
         Knows (set || sets_sp by.found.instr) (enabled_after by.found.instr enabled) v
-    executes_passed summaries kind off passes v by same = executes_by v by same (λ f is on inside. passed_by summaries (flow found.instr) refl kind off passes)
+    executes_passed kind off passes v by same = executes_by v by same (λ f is on inside. passed_by (flow found.instr) refl kind off passes)
 
     -- behind a HLT all is as it was
     wakes_here : HereFollows → (v : World) → interrupted ≡ true → enabled ≡ true → (by : Wakes w v) → by.found ≡ found → Knows set enabled v
@@ -700,7 +712,7 @@ module _ (laws : Laws) (image : Located) (interrupted : Bool) (entered : Entry) 
       halts_here = ap (λ (f : Fetched). flow f.instr) (sym same) ∙ ap (λ (i : Instr). flow i) by.halts
 
       covers : Covers table found.next k.state.known k.state.beside (stack_of k.state)
-      covers = (subst (λ (f : Flow). FollowsBy image (bounds_of image) interrupted bytes_of_code ways table bytes k.state found f) halts_here follows) on (k.enables may)
+      covers = (subst (λ (f : Flow). FollowsBy (bounds_of image) fit k.state found f) halts_here follows) on (k.enables may)
 
       here : Machine
       here = (with_pc w found.next).machine
@@ -722,8 +734,8 @@ module _ (laws : Laws) (image : Located) (interrupted : Bool) (entered : Entry) 
           behind (cut k.state.known (byte_alone a)) ((laws.holds here held).cuts k.state.known a holds refl) (each a k.known.registers.a)
 
   -- a state that fits
-  module _ (set enabled : Bool) (w : World) (k : KnowsWorld image interrupted entered table set enabled w) (entry : StateFollows image (bounds_of image) interrupted quiet bytes_of_code ways listed table bytes k.state) where
-    abbrev stood : StateStands image interrupted quiet listed bytes k.state
+  module _ (set enabled : Bool) (w : World) (k : KnowsWorld image interrupted entered table set enabled w) (entry : StateFollows (bounds_of image) fit k.state) where
+    abbrev stood : StateStands fit k.state
     stood = entry.stands
 
     pub keeps : KeepsFollowed image interrupted bytes ways listed w

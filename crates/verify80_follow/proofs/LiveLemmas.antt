@@ -18,7 +18,7 @@ use Rattle.image80.specs.{Image.Located, Image.memory_of, Range.IsInMemory, Rang
 use Rattle.image80.specs.{Regions.Areas, Regions.held, Regions.in_code, Regions.in_data, Regions.targets_at, Regions.top_of}
 use Rattle.image80.specs.declared.range.Range.{Range}
 use Rattle.machine80.specs.{Cpu.hl_of, Effects.byte_in, Effects.pointed_bytes, Effects.stack_bytes, Effects.stored, Effects.stores}
-use Rattle.machine80.specs.{Effects.target, Effects.word_in, FactsLaws.stacked_by, World.IsJustBelow, World.World}
+use Rattle.machine80.specs.{Effects.target, Effects.word_in, FactsLaws.stacked_by, World.World}
 use Rattle.machine80.specs.{World.places_after, World.returns, declared.cpu.Cpu.Cpu, declared.registers.Registers.Registers}
 use Rattle.machine80.specs.Step.{Machine, fetch, proceeded}
 use Rattle.verify80.specs.Boards.{Disturbs, Executes, IsPushed, StaysInside, fetched_anywhere, respected_pointer, sets_sp, unguarded, with_memory}
@@ -29,16 +29,17 @@ use Rattle.verify80_follow.specs.declared.{followed.FollowedState.FollowedState,
 use Rattle.verify80_follow.specs.InterruptedBoards.{Wakes, enabled_after, with_pc}
 use Rattle.verify80_follow.specs.Stack.{bounds_of, pointer_at}
 use Rattle.verify80_follow.specs.Held.{Entry, HoldsBeside, HoldsPairHeld, HoldsSaved, count_of, nothing_beside}
-use Rattle.verify80_follow.specs.Follows.{Follows, IsWay, StateFollows, StateStands, places_among, stack_of, uses_pointer, entered_stack, ways_of}
-use Rattle.verify80_follow.specs.Handling.{BeginsAnew, EndsAt, GivesBack, HandlerTable, Handles, HandlesAmong, IsReturn, entered_beside, entered_pair, on_stack}
+use Rattle.verify80_follow.specs.Follows.{Fitting, Follows, IsWay, fitting, StateFollows, StateStands, places_among, stack_of, uses_pointer, entered_stack, ways_of}
+use Rattle.verify80_follow.specs.Handling.{BeginsAnew, EndsAt, GivesBack, HandlerTable, Handles, HandlesAmong, IsReturn, entered_beside, entered_pair, handler_fitting, on_stack}
 use Rattle.verify80_follow.specs.Promise.{GoesToListed, IsLeftOpenAt, IsOnStack, IsReady, KeepsFollowed, KnowsWorld}
 use Rattle.verify80_follow.specs.Live.{Enable, HandlerBounds, IsHaltedBefore, KeepsHandler, LiesBelow, LiveMachinesKeepThePromise, OnLiveBoard, PromiseOfLive, Takes, begins, disturbed}
 use Rattle.verify80_follow.specs.Live.{enable_after, entering, executed, interrupted, is_back, may_come, off, on, passed, soon, under_after, world_after}
-use Rattle.verify80_follow.proofs.{FetchLemmas.anywhere_of, FetchLemmas.fetched_here, FetchLemmas.inside_of, GroundLemmas.Ground, RelativeLemmas.fits_more}
+use Rattle.verify80_follow.proofs.{FetchLemmas.anywhere_of, FetchLemmas.fetched_here, FetchLemmas.inside_of, GroundLemmas.Ground, RelativeLemmas.fits_more, RelativeLemmas.moved}
 use Rattle.verify80_follow.proofs.CallLemmas.{Knows as KnowsCalls, begun as begun_calls, disturbs as disturbs_calls, executes as executes_calls}
 use Rattle.verify80_follow.proofs.CallLemmas.{in_main, keeps as keeps_calls, ready as ready_calls, stands as stands_calls, wakes as wakes_calls}
-use Rattle.verify80_follow.proofs.PartLemmas.{into_back, into_bytes, into_stack, into_whole, off_part, off_stack, part_below, part_inside, regions_below, same_ok, stacked_within, stands_at, two_above}
-use Rattle.verify80_follow.proofs.FollowLemmas.{Laws, disturbs as disturbs_table, enters as enters_table, executes_found, goes_on}
+use Rattle.verify80_follow.proofs.PartLemmas.{executes_moved, into_back, into_bytes, into_stack, into_whole, off_part, off_stack, part_below, part_inside, regions_below, same_ok, stacked_within, stands_at, two_above}
+use Rattle.verify80_follow.specs.StepLaws.{StepLaws}
+use Rattle.verify80_follow.proofs.FollowLemmas.{disturbs as disturbs_table, enters as enters_table, executes_found, goes_on}
 use Rattle.verify80_follow.proofs.FollowLemmas.{keeps as keeps_table, leaves, nobody, one_of, points, same_some, stays_inside, touches_stack}
 use Rattle.verify80_follow.proofs.HeldLemmas.{all_of, nothing_holds, stored_other, two_of}
 use Rattle.verify80_stores.specs.Opening.{pointer_span}
@@ -125,7 +126,7 @@ unfolding fetch_in
 fetched_small regions rules memory at found is =
     small_in regions.code at (front_of IsInMemory regions.code (regions.stack ∷ regions.data_ranges) rules.in_memory) (tested (in_code regions at) (admitted_if_used (in_code regions) at (decoded (slice_index memory at) (slice_index memory (ahead at 1)) (slice_index memory (ahead at 2)))) found is)
 
-module _ (laws : Laws) (grounds : (regions : Areas) → AreRegions regions → Ground regions) (image : Located) (quiet : ℕ → Bool) (is_set : Bool) (handlers places : List ℕ) (ways : List Way) (listed : Listed) (main : ℕ) (inner : HandlerBounds) (rules : AreRegions image.regions)
+module _ (laws : StepLaws) (grounds : (regions : Areas) → AreRegions regions → Ground regions) (image : Located) (quiet : ℕ → Bool) (is_set : Bool) (handlers places : List ℕ) (ways : List Way) (listed : Listed) (main : ℕ) (inner : HandlerBounds) (rules : AreRegions image.regions)
     (quiet_data : (at : ℕ) → quiet at ≡ true → in_data image.regions at ≡ true) (loud : (at : ℕ) → quiet at ≡ true → inner.written at ≡ false) (mtable : List FollowedState) (main_fits : Follows image true quiet is_set (ways_of ways places) listed mtable main)
     (placed : (at : ℕ) → Contains (places_among mtable main_fits.summaries) at → Contains places at)
     (tables : (h : ℕ) → Contains handlers h → HandlesAmong image mtable inner.written quiet inner.ways places listed inner.bytes h) (room : main + inner.bytes ≤ image.regions.stack.length) where
@@ -134,6 +135,13 @@ module _ (laws : Laws) (grounds : (regions : Areas) → AreRegions regions → G
 
   abbrev below : (count : ℕ) → Located
   below count = on_stack image (part_below image.regions count)
+
+  -- what the program's table is fitted to, and a handler's
+  abbrev main_fitting : Fitting
+  main_fitting = fitting image true quiet main_fits.code (ways_of ways places) listed main_fits.summaries mtable main
+
+  abbrev fitted : {h : ℕ} → HandlerTable image mtable inner.written quiet inner.ways places listed inner.bytes h → Fitting
+  fitted of = handler_fitting image quiet of.fits.code (ways_of of.ways places) listed of.table of.bytes
 
   ground_below : (count : ℕ) → Ground (below count).regions
   ground_below count = grounds (below count).regions (regions_below image.regions count rules)
@@ -216,11 +224,14 @@ module _ (laws : Laws) (grounds : (regions : Areas) → AreRegions regions → G
       abbrev part : Located
       part = below x.count
 
+      abbrev fitted_below : Fitting
+      fitted_below = moved (fitted x.of) (part_below image.regions x.count)
+
       state : FollowedState
       state = x.known.state
 
-      handles : Handles image mtable inner.written x.of.bounds quiet x.of.fits.code (ways_of x.of.ways places) listed x.of.table x.of.bytes x.known.state
-      handles = one_of (λ s. Handles image mtable inner.written x.of.bounds quiet x.of.fits.code (ways_of x.of.ways places) listed x.of.table x.of.bytes s) x.of.table x.known.place x.known.state x.of.fits.states x.known.there
+      handles : Handles mtable inner.written x.of.bounds (fitted x.of) x.known.state
+      handles = one_of (Handles mtable inner.written x.of.bounds (fitted x.of)) x.of.table x.known.place x.known.state x.of.fits.states x.known.there
 
       abbrev found : Fetched
       found = handles.found
@@ -244,53 +255,44 @@ module _ (laws : Laws) (grounds : (regions : Areas) → AreRegions regions → G
       anywhere = anywhere_of image.regions m.memory m.cpu.pc found fetched
 
       -- a state that fits as any does
-      module _ (fixed : uses_pointer found.instr ≡ false) (fits : StateFollows image x.of.bounds true quiet x.of.fits.code (ways_of x.of.ways places) listed x.of.table x.of.bytes x.known.state) where
+      module _ (fixed : uses_pointer found.instr ≡ false) (fits : StateFollows x.of.bounds (fitted x.of) x.known.state) where
         found_same : found ≡ fits.stands.found
         found_same = same_ok (fetch_at image.regions (memory_of image.chunks) x.known.state.at) found fits.stands.found handles.executed.fetched fits.stands.executed.fetched
 
-        abbrev entry : StateFollows part (bounds_of part) true quiet x.of.fits.code (ways_of x.of.ways places) listed x.of.table x.of.bytes x.known.state
-        entry = fits_more x.of.bounds (bounds_of part) wide image (part_below image.regions x.count) true quiet x.of.fits.code (ways_of x.of.ways places) listed x.of.table x.of.bytes x.known.state fits (subst (λ (f : Fetched). uses_pointer f.instr ≡ false) found_same fixed) handles.enough
+        abbrev entry : StateFollows (bounds_of part) fitted_below x.known.state
+        entry = fits_more x.of.bounds (bounds_of part) wide (fitted x.of) (part_below image.regions x.count) x.known.state fits (subst (λ (f : Fetched). uses_pointer f.instr ≡ false) found_same fixed) handles.enough
 
-        abbrev stood : StateStands part true quiet listed x.of.bytes x.known.state
+        abbrev stood : StateStands fitted_below x.known.state
         stood = entry.stands
 
         kept : KeepsFollowed part true x.of.bytes (ways_of x.of.ways places) listed w
-        kept = keeps_table laws part true (entry_of u) quiet true (ways_of x.of.ways places) listed x.of.table x.of.bytes (regions_below image.regions x.count rules) (ground_below x.count) quiet_data x.of.fits.code x.of.fits.are_code enough_room true (may_come flag) w x.known entry
+        kept = keeps_table laws fitted_below (entry_of u) true (regions_below image.regions x.count rules) (ground_below x.count) quiet_data x.of.fits.are_code enough_room true (may_come flag) w x.known entry
 
         touches : All (Touches part.regions (ground_below x.count) x.of.bytes) (stack_bytes fits.stands.found.instr m.cpu)
-        touches = touches_stack laws part true (entry_of u) quiet true (ways_of x.of.ways places) listed x.of.table x.of.bytes (regions_below image.regions x.count rules) (ground_below x.count) quiet_data x.of.fits.code x.of.fits.are_code enough_room true (may_come flag) w x.known entry
+        touches = touches_stack laws fitted_below (entry_of u) true (regions_below image.regions x.count rules) (ground_below x.count) quiet_data x.of.fits.are_code enough_room true (may_come flag) w x.known entry
 
         pointed_written : (k d : ℕ) → k < length (pointed_bytes fits.stands.found.instr m.cpu.registers) → in_data image.regions (get_or (pointed_bytes fits.stands.found.instr m.cpu.registers) k d) ≡ true → inner.written (get_or (pointed_bytes fits.stands.found.instr m.cpu.registers) k d) ≡ true
         pointed_written k d inside =
-            let p = points laws part true (entry_of u) quiet true (ways_of x.of.ways places) listed x.of.table x.of.bytes (regions_below image.regions x.count rules) (ground_below x.count) quiet_data x.of.fits.code x.of.fits.are_code enough_room true (may_come flag) w x.known stood
+            let p = points laws fitted_below (entry_of u) true (regions_below image.regions x.count rules) (ground_below x.count) quiet_data x.of.fits.are_code enough_room true (may_come flag) w x.known stood
             (get_or (pointed_bytes fits.stands.found.instr m.cpu.registers) k d) (Contains-get_or (pointed_bytes fits.stands.found.instr m.cpu.registers) k d inside) in
             handles.pointed p.span (subst (λ (f : Fetched). pointer_span f.instr x.known.state.known ≡ Some p.span) (sym found_same) p.is) (get_or (pointed_bytes fits.stands.found.instr m.cpu.registers) k d) p.within
 
         -- an instruction of it
         module _ (v : World) (by : Executes image.regions (IsLeftOpenAt listed) w v) where
           abbrev by_part : Executes part.regions (IsLeftOpenAt listed) w v
-          by_part = record {
-            found = by.found;
-            byte = by.byte;
-            after = by.after;
-            fetched = by.fetched;
-            small = by.small;
-            inside = λ at. record { stores = (by.inside at).stores; jumps = (by.inside at).jumps };
-            goes = by.goes;
-            is = by.is;
-          }
+          by_part = executes_moved image (part_below image.regions x.count) (IsLeftOpenAt listed) w v by
 
           by_found : by.found ≡ fits.stands.found
           by_found = same_some by.found found (sym by.fetched ∙ anywhere) ∙ found_same
 
           known_then : KnowsWorld part true (entry_of u) x.of.table true (enabled_after by.found.instr (may_come flag)) v
-          known_then = executes_found laws part true (entry_of u) quiet true (ways_of x.of.ways places) listed x.of.table x.of.bytes (regions_below image.regions x.count rules) (ground_below x.count) quiet_data x.of.fits.code x.of.fits.are_code enough_room true (may_come flag) w x.known entry v by_part by_found
+          known_then = executes_found laws fitted_below (entry_of u) true (regions_below image.regions x.count rules) (ground_below x.count) quiet_data x.of.fits.are_code enough_room true (may_come flag) w x.known entry v by_part by_found
 
           goes : unguarded fits.stands.found.instr by.byte fits.stands.found.next m ≡ Some by.after
           goes = subst (λ (f : Fetched). unguarded f.instr by.byte f.next m ≡ Some by.after) by_found by.goes
 
           stays : StaysInside part.regions m fits.stands.found.instr
-          stays = stays_inside laws part true (entry_of u) quiet true (ways_of x.of.ways places) listed x.of.table x.of.bytes (regions_below image.regions x.count rules) (ground_below x.count) quiet_data x.of.fits.code x.of.fits.are_code enough_room true (may_come flag) w x.known stood
+          stays = stays_inside laws fitted_below (entry_of u) true (regions_below image.regions x.count rules) (ground_below x.count) quiet_data x.of.fits.are_code enough_room true (may_come flag) w x.known stood
               (λ at. subst (λ (f : Fetched). StaysInside part.regions m f.instr) by_found (by_part.inside at))
 
           memory_then : v.machine.memory ≡ stored m.memory (stores fits.stands.found.instr fits.stands.found.next m.memory m.cpu)
@@ -338,8 +340,8 @@ module _ (laws : Laws) (grounds : (regions : Areas) → AreRegions regions → G
                     λ same. absurd (omega (arith, same, high, above, sp, low))
 
           -- the state behind it has its word to return to, so SP isn't what it was
-          then_handles : Handles image mtable inner.written x.of.bounds quiet x.of.fits.code (ways_of x.of.ways places) listed x.of.table x.of.bytes known_then.state
-          then_handles = one_of (λ s. Handles image mtable inner.written x.of.bounds quiet x.of.fits.code (ways_of x.of.ways places) listed x.of.table x.of.bytes s) x.of.table known_then.place known_then.state x.of.fits.states known_then.there
+          then_handles : Handles mtable inner.written x.of.bounds (fitted x.of) known_then.state
+          then_handles = one_of (Handles mtable inner.written x.of.bounds (fitted x.of)) x.of.table known_then.place known_then.state x.of.fits.states known_then.there
 
           pointer_then : v.machine.cpu.sp ≡ pointer_at (bounds_of part) (count_of (stack_of known_then.state))
           pointer_then = stands_at (bounds_of part) v.machine.cpu.sp v.machine.memory (stack_of known_then.state) then_handles.enough known_then.stack
@@ -446,7 +448,7 @@ module _ (laws : Laws) (grounds : (regions : Areas) → AreRegions regions → G
           fresh_bytes = record { registers = x.known.bytes.registers; memory = x.known.bytes.memory; inputs = x.known.bytes.inputs }
 
           begun_known : (calls : List ℕ) → MainKnows true false (begun_world calls)
-          begun_known calls = in_main laws grounds image true quiet is_set (ways_of ways places) listed mtable main rules quiet_data main_fits few_main placed true false (begun_world calls) (enters_table laws image true nobody quiet is_set (ways_of ways places) listed mtable main rules ground quiet_data main_fits.code main_fits.are_code few_main true false nothing_beside (begun_world calls) nothing_known (Some [])
+          begun_known calls = in_main laws grounds image true quiet is_set (ways_of ways places) listed mtable main rules quiet_data main_fits few_main placed true false (begun_world calls) (enters_table laws main_fitting nobody is_set rules ground quiet_data main_fits.are_code few_main true false nothing_beside (begun_world calls) nothing_known (Some [])
               anew.has (λ is. is) (nothing_holds (bounds_of image) nobody false 0 fresh) (λ on is. cc) (laws.holds fresh fresh_bytes).nothing (record { pointer = omega arith; within = omega arith; each = tt }, refl) fresh_bytes x.known.whole (λ a there. x.known.code a there))
 
           anew_known : MainKnows true false v
@@ -465,7 +467,7 @@ module _ (laws : Laws) (grounds : (regions : Areas) → AreRegions regions → G
         at = x.at;
         u_known = x.u_known;
         u_small = x.u_small;
-        known = disturbs_table laws part true (entry_of u) quiet true (ways_of x.of.ways places) listed x.of.table x.of.bytes (regions_below image.regions x.count rules) (ground_below x.count) quiet_data x.of.fits.code x.of.fits.are_code enough_room true (may_come flag) w (with_memory w by.memory) x.known handles.knows
+        known = disturbs_table laws fitted_below (entry_of u) true (regions_below image.regions x.count rules) (ground_below x.count) quiet_data x.of.fits.are_code enough_room true (may_come flag) w (with_memory w by.memory) x.known handles.knows
             (record { memory = by.memory; leaves = record { code = by.leaves.code; pushed = λ a is. by.leaves.pushed a (wider a is); size = by.leaves.size; bytes = by.leaves.bytes }; is = refl }) stays;
         left = record {
           pushed = λ a is. by.leaves.pushed a (record { in_stack = is.in_stack; above = lower a is; filled = filled_here }) ∙ x.left.pushed a is;
@@ -517,8 +519,8 @@ module _ (laws : Laws) (grounds : (regions : Areas) → AreRegions regions → G
 
       two_fit_here : 2 ≤ image.regions.stack.length - n
       two_fit_here = let few = ready.few in let less = of.few in let some = started.few in let enough = started.enough in omega (arith, few, less, some, enough, room) where
-        started : Handles image mtable inner.written of.bounds quiet of.fits.code (ways_of of.ways places) listed of.table of.bytes of.fits.start.state
-        started = one_of (λ s. Handles image mtable inner.written of.bounds quiet of.fits.code (ways_of of.ways places) listed of.table of.bytes s) of.table of.fits.start.place of.fits.start.state of.fits.states of.fits.start.there
+        started : Handles mtable inner.written of.bounds (fitted of) of.fits.start.state
+        started = one_of (Handles mtable inner.written of.bounds (fitted of)) of.table of.fits.start.place of.fits.start.state of.fits.states of.fits.start.there
 
       -- a byte off the stack, and one that is pushed
       off_it : (a : ℕ) → in_range image.regions.stack a ≡ false → slice_index into.machine.memory a ≡ slice_index u.machine.memory a
@@ -566,7 +568,7 @@ module _ (laws : Laws) (grounds : (regions : Areas) → AreRegions regions → G
         at = ready.pointer;
         u_known = u_known;
         u_small = u_small;
-        known = enters_table laws (below n) true (entry_of u) quiet true (ways_of of.ways places) listed of.table of.bytes (regions_below image.regions n rules) (ground_below n) quiet_data of.fits.code of.fits.are_code (let few = ready.few in let less = of.few in omega (arith, few, less, room)) true false entered_beside into nothing_known entered_stack
+        known = enters_table laws (moved (fitted of) (part_below image.regions n)) (entry_of u) true (regions_below image.regions n rules) (ground_below n) quiet_data of.fits.are_code (let few = ready.few in let less = of.few in omega (arith, few, less, room)) true false entered_beside into nothing_known entered_stack
             of.fits.start (λ is. is) into_held (λ h is. refl) (laws.holds into.machine into_held_bytes).nothing
             (into_stack grounds image rules n low_n u.machine u.machine.cpu.pc h u_small at_top two_fit_here u_known.known.bytes u_known.known.whole, refl) into_held_bytes
             (into_whole grounds image rules n low_n u.machine u.machine.cpu.pc h u_small at_top two_fit_here u_known.known.bytes u_known.known.whole) (λ a there. off_it a (ground.code_or_stack a there) ∙ u_known.known.code a there);
@@ -619,7 +621,7 @@ module _ (laws : Laws) (grounds : (regions : Areas) → AreRegions regions → G
         by_test true is = absurd (apart (grind (arith, nat_tests, is)))
         by_test false is = is
 
-      plain : uses_pointer (handles u was w x).found.instr ≡ false → (fits : StateFollows image x.of.bounds true quiet x.of.fits.code (ways_of x.of.ways places) listed x.of.table x.of.bytes x.known.state) → Now
+      plain : uses_pointer (handles u was w x).found.instr ≡ false → (fits : StateFollows x.of.bounds (fitted x.of) x.known.state) → Now
       plain fixed fits = settled false false (ap (λ (f : Fetched). sets_sp f.instr) found_here ∙ sets_uses (handles u was w x).found.instr fixed) (nat_apart v.machine.cpu.sp u.machine.cpu.sp (not_over u was w x fixed fits v by))
           (refl, handling_then u was w x fixed fits v by (enable_after by.found.instr was) refl (now_then x.now)) where
             lets_here : by.found.instr ≡ Ei → IsReturn image v.machine.cpu.pc × (v.machine.cpu.sp ≡ pointer_at (bounds_of (below x.count)) 2)
@@ -656,7 +658,7 @@ module _ (laws : Laws) (grounds : (regions : Areas) → AreRegions regions → G
         more = λ may. absurd (true≢false (sym may ∙ ap may_come (ap (λ (i : Instr). enable_after i was) (ap (λ (f : Fetched). f.instr) found_here ∙ anew.sets) ∙ ap passed (was_off u was w x anew))));
       })
 
-      split : EndsAt image mtable (handles u was w x).found x.known.state ⊎ ((uses_pointer (handles u was w x).found.instr ≡ false) × StateFollows image x.of.bounds true quiet x.of.fits.code (ways_of x.of.ways places) listed x.of.table x.of.bytes x.known.state) → Now
+      split : EndsAt image mtable (handles u was w x).found x.known.state ⊎ ((uses_pointer (handles u was w x).found.instr ≡ false) × StateFollows x.of.bounds (fitted x.of) x.known.state) → Now
       split (inl (inl both)) = ends both
       split (inl (inr anew)) = starts_anew anew
       split (inr (fixed, fits)) = plain fixed fits
@@ -700,7 +702,7 @@ module _ (laws : Laws) (grounds : (regions : Areas) → AreRegions regions → G
       at = w.machine
 
       abbrev Fits : Type 0
-      Fits = StateFollows image x.of.bounds true quiet x.of.fits.code (ways_of x.of.ways places) listed x.of.table x.of.bytes x.known.state
+      Fits = StateFollows x.of.bounds (fitted x.of) x.known.state
 
       abbrev Either : Type 0
       Either = EndsAt image mtable here x.known.state ⊎ ((uses_pointer here.instr ≡ false) × Fits)
@@ -845,8 +847,8 @@ module _ (laws : Laws) (grounds : (regions : Areas) → AreRegions regions → G
       of : HandlerTable image mtable inner.written quiet inner.ways places listed inner.bytes h
       of = (tables h has).of
 
-      started : Handles image mtable inner.written of.bounds quiet of.fits.code (ways_of of.ways places) listed of.table of.bytes of.fits.start.state
-      started = one_of (λ s. Handles image mtable inner.written of.bounds quiet of.fits.code (ways_of of.ways places) listed of.table of.bytes s) of.table of.fits.start.place of.fits.start.state of.fits.states of.fits.start.there
+      started : Handles mtable inner.written of.bounds (fitted of) of.fits.start.state
+      started = one_of (Handles mtable inner.written of.bounds (fitted of)) of.table of.fits.start.place of.fits.start.state of.fits.states of.fits.start.there
 
       by : IsReady image main set w → All (IsOnStack image (main + inner.bytes)) (behind w.machine.cpu.sp 1 ∷ behind w.machine.cpu.sp 2 ∷ [])
       by ready =
@@ -870,5 +872,5 @@ module _ (laws : Laws) (grounds : (regions : Areas) → AreRegions regions → G
         keeps_handler start pc whole code held top u flag w known.1,
       )
 
-pub live_promise : Laws → ((regions : Areas) → AreRegions regions → Ground regions) → LiveMachinesKeepThePromise
+pub live_promise : StepLaws → ((regions : Areas) → AreRegions regions → Ground regions) → LiveMachinesKeepThePromise
 live_promise laws grounds image quiet is_set handlers places ways listed mtable main inner rules quiet_data loud main_fits placed tables room = live_keeps laws grounds image quiet is_set handlers places ways listed main inner rules quiet_data loud mtable main_fits placed tables room

@@ -13,7 +13,8 @@ use Rattle.image80.specs.declared.range.Range.{Range}
 use Rattle.machine80.specs.{Effects.byte_in, Effects.pointed_bytes, Effects.push_bytes, Effects.stack_bytes, Effects.stores}
 use Rattle.machine80.specs.{Effects.touched_by, FactsLaws.InstructionsKeepToFacts, FactsLaws.stacked_by, declared.cpu.Cpu.Cpu}
 use Rattle.machine80.specs.Step.{Machine}
-use Rattle.verify80.specs.Boards.{unguarded}
+use Rattle.machine80.specs.World.{World}
+use Rattle.verify80.specs.Boards.{Executes, unguarded}
 use Rattle.verify80_spans.specs.declared.byte_span.ByteSpan.{ByteSpan}
 use Rattle.verify80_spans.specs.Span.{any_byte}
 use Rattle.verify80_states.specs.{Bytes.HasBytes, Bytes.HoldsBytes}
@@ -104,6 +105,19 @@ same_ok r a b one other = cc
 pub two_above : (b : StackBounds) → ahead (pointer_at b 2) 2 ≡ pointer_at b 0
 unfolding ahead
 two_above b = omega arith
+
+-- what an image executes it executes with another stack
+abbrev pub executes_moved : (image : Located) (range : Range) (listed : ℕ → Type 0) (w v : World) → Executes image.regions listed w v → Executes (on_stack image range).regions listed w v
+executes_moved image range listed w v by = record {
+  found = by.found;
+  byte = by.byte;
+  after = by.after;
+  fetched = by.fetched;
+  small = by.small;
+  inside = λ at. record { stores = (by.inside at).stores; jumps = (by.inside at).jumps };
+  goes = by.goes;
+  is = by.is;
+}
 
 -- a machine that is called to an address, and returns to a place, at a part of the stack
 module _ (grounds : (regions : Areas) → AreRegions regions → Ground regions) (image : Located) (rules : AreRegions image.regions) (n : ℕ) (low : n ≤ image.regions.stack.length) where

@@ -7,18 +7,22 @@ use Rattle.decode80.specs.{Facts.flow, declared.fetching.Fetched.Fetched, declar
 use Rattle.decode80.specs.declared.flow.Flow.TheVariants.{Jumps, JumpsIf, JumpsToHl, Calls, CallsIf, Returns, ReturnsIf, Halts}
 use Rattle.decode80.specs.declared.instr.Instr.TheVariants.{Call, CallIf, Dad, Dcx, Lxi, Push, Rst, Sphl}
 use Rattle.decode80.specs.declared.pair.Pair.TheVariants.{Bc, De, Hl, Sp}
-use Rattle.image80.specs.{Image.Located, Image.memory_of}
+use Rattle.image80.specs.{Image.memory_of}
 use Rattle.image80.specs.declared.range.Range.{Range}
 use Rattle.verify80.specs.{LookLaws.fetch_at, Looking.is_declared}
 use Rattle.verify80_spans.specs.declared.byte_span.ByteSpan.{ByteSpan}
 use Rattle.verify80_states.specs.{declared.states.known.Known.Known, Following.known_after, Given.given}
-use Rattle.verify80_follow.specs.declared.{calls.Summary.Summary, followed.FollowedState.FollowedState, followed.Listed.Listed, followed.Way.Way, stack.StackBounds.StackBounds}
+use Rattle.verify80_follow.specs.declared.{followed.FollowedState.FollowedState, stack.StackBounds.StackBounds}
 use Rattle.verify80_follow.specs.Stack.{called_on, if_true, stack_after, stack_then, top_of_stack}
 use Rattle.verify80_follow.specs.Held.{beside_then, count_of}
 use Rattle.verify80_follow.specs.Follows.{Covers, CoversThen, FollowsBy, IsWay, JumpsBy, LeadsTo, ReturnsLeft}
 use Rattle.verify80_follow.specs.Follows.{Goes, PassesBy, ReturnsBack, StateFollows, StateStands, StepsOver, stack_of, uses_pointer}
-use Rattle.verify80_follow.specs.Follows.{Ways}
+use Rattle.verify80_follow.specs.Follows.{Fitting}
 use Rattle.verify80_follow.specs.Handling.{on_stack}
+
+-- what is fitted to an image with another stack
+abbrev pub moved : Fitting → Range → Fitting
+moved fit range = record fit { image = on_stack fit.image range }
 
 -- where there is room there is more
 more_room : {X : Type 0} (a b n : ℕ) (x y : X) → a ≤ b → if_true (nat_le n a) x ≡ Some y → if_true (nat_le n b) x ≡ Some y
@@ -58,35 +62,35 @@ module _ (one other : StackBounds) (more : one.length ≤ other.length) where
   known_same code i (Some bytes) s fixed enough = refl
 
   -- an image with another stack
-  module _ (image : Located) (range : Range) (interrupted : Bool) (code : List (Option ℕ)) (ways : Ways) (table : List FollowedState) (bytes : ℕ) (s : FollowedState) (found : Fetched) (fixed : uses_pointer found.instr ≡ false) (enough : 2 ≤ count_of (stack_of s)) where
-    then_covers : (taken : Bool) (to : ℕ) (known : Known) → CoversThen image one interrupted code ways table bytes s found taken to known → CoversThen (on_stack image range) other interrupted code ways table bytes s found taken to known
+  module _ (fit : Fitting) (range : Range) (s : FollowedState) (found : Fetched) (fixed : uses_pointer found.instr ≡ false) (enough : 2 ≤ count_of (stack_of s)) where
+    then_covers : (taken : Bool) (to : ℕ) (known : Known) → CoversThen one fit s found taken to known → CoversThen other (moved fit range) s found taken to known
     then_covers taken to known c = record {
       stack = c.stack;
       is = then_more found.instr taken found.next known (stack_of s) c.stack fixed enough c.is;
       depth = c.depth;
-      covers = subst (λ (k : Known). Covers table to k (beside_then found.instr (stack_of s) c.stack s.beside) c.stack) (known_same code found.instr (stack_of s) known fixed enough) c.covers;
+      covers = subst (λ (k : Known). Covers fit.table to k (beside_then found.instr (stack_of s) c.stack s.beside) c.stack) (known_same fit.code found.instr (stack_of s) known fixed enough) c.covers;
     }
 
-    leads_more : (taken : Bool) (to : ℕ) (left : Option Known) → LeadsTo image one interrupted code ways table bytes s found taken to left → LeadsTo (on_stack image range) other interrupted code ways table bytes s found taken to left
+    leads_more : (taken : Bool) (to : ℕ) (left : Option Known) → LeadsTo one fit s found taken to left → LeadsTo other (moved fit range) s found taken to left
     leads_more taken to None leads = tt
     leads_more taken to (Some known) leads = then_covers taken to known leads
 
-    way_more : (at to : ℕ) → IsWay image ways at to → IsWay (on_stack image range) ways at to
+    way_more : (at to : ℕ) → IsWay fit.image fit.ways at to → IsWay (on_stack fit.image range) fit.ways at to
     way_more at to (inl behind) = inl (record { at = behind.at; placed = behind.placed; found = behind.found; fetched = behind.fetched; calls = behind.calls; next = behind.next })
     way_more at to (inr listed) = inr listed
 
-    returns_more : (left : Option Known) → ReturnsLeft image one interrupted code ways table bytes s found left → ReturnsLeft (on_stack image range) other interrupted code ways table bytes s found left
+    returns_more : (left : Option Known) → ReturnsLeft one fit s found left → ReturnsLeft other (moved fit range) s found left
     returns_more None back = tt
     returns_more (Some known) back = record { stacked = back.stacked; stack = back.stack; to = back.to; is = back.is; way = way_more s.at back.to back.way; leads = then_covers true back.to known back.leads }
 
-    jumps_more : (declared : Bool) → JumpsBy image one interrupted code ways table bytes s found declared → JumpsBy (on_stack image range) other interrupted code ways table bytes s found declared
+    jumps_more : (declared : Bool) → JumpsBy one fit s found declared → JumpsBy other (moved fit range) s found declared
     jumps_more false jumps = record { alone = jumps.alone; way = way_more s.at s.known.hl.words.first jumps.way; leads = then_covers false s.known.hl.words.first s.known jumps.leads }
     jumps_more true jumps = λ to there within. then_covers false to s.known (jumps to there within)
 
-    pub by_more : (w : Flow) → FollowsBy image one interrupted code ways table bytes s found w → FollowsBy (on_stack image range) other interrupted code ways table bytes s found w
+    pub by_more : (w : Flow) → FollowsBy one fit s found w → FollowsBy other (moved fit range) s found w
     by_more (Jumps to) follows = leads_more false to (Some s.known) follows
     by_more (JumpsIf condition to) follows = (leads_more true to (given condition true s.known) follows.0, leads_more false found.next (given condition false s.known) follows.1)
-    by_more JumpsToHl follows = jumps_more (is_declared image.regions s.at) follows
+    by_more JumpsToHl follows = jumps_more (is_declared fit.image.regions s.at) follows
     by_more (Calls to) follows = leads_more true to (Some s.known) follows
     by_more (CallsIf condition to) follows = (leads_more true to (given condition true s.known) follows.0, leads_more false found.next (given condition false s.known) follows.1)
     by_more Returns follows = returns_more (Some s.known) follows
@@ -95,35 +99,32 @@ module _ (one other : StackBounds) (more : one.length ≤ other.length) where
     by_more w follows = leads_more false found.next (Some s.known) follows
 
 -- a state that stands at an instruction
-abbrev stands_more : (image : Located) (range : Range) (interrupted : Bool) (quiet : ℕ → Bool) (listed : Listed) (bytes : ℕ) (s : FollowedState) → StateStands image interrupted quiet listed bytes s → StateStands (on_stack image range) interrupted quiet listed bytes s
-stands_more image range interrupted quiet listed bytes s stands = record {
+abbrev stands_more : (fit : Fitting) (range : Range) (s : FollowedState) → StateStands fit s → StateStands (moved fit range) s
+stands_more fit range s stands = record {
   found = stands.found;
   executed = record { fetched = stands.executed.fetched; stores = stands.executed.stores; halts = stands.executed.halts };
-  serves = stands.serves;
-  shown = record { stores = stands.shown.stores; jumps = stands.shown.jumps };
-  depth = stands.depth;
-  knows = stands.knows;
+  may = record { serves = stands.may.serves; shown = record { stores = stands.may.shown.stores; jumps = stands.may.shown.jumps }; depth = stands.may.depth; knows = stands.may.knows };
 }
 
 -- a state that fits
-abbrev pub fits_more : (one other : StackBounds) → one.length ≤ other.length → (image : Located) (range : Range) (interrupted : Bool) (quiet : ℕ → Bool) (code : List (Option ℕ)) (ways : Ways) (listed : Listed) (table : List FollowedState) (bytes : ℕ) (s : FollowedState) →
-    (fits : StateFollows image one interrupted quiet code ways listed table bytes s) → uses_pointer fits.stands.found.instr ≡ false → 2 ≤ count_of (stack_of s) → StateFollows (on_stack image range) other interrupted quiet code ways listed table bytes s
-fits_more one other more image range interrupted quiet code ways listed table bytes s fits fixed enough = record {
-  stands = stands_more image range interrupted quiet listed bytes s fits.stands;
-  follows = by_more one other more image range interrupted code ways table bytes s fits.stands.found fixed enough (flow fits.stands.found.instr) fits.follows;
+abbrev pub fits_more : (one other : StackBounds) → one.length ≤ other.length → (fit : Fitting) (range : Range) (s : FollowedState) →
+    (fits : StateFollows one fit s) → uses_pointer fits.stands.found.instr ≡ false → 2 ≤ count_of (stack_of s) → StateFollows other (moved fit range) s
+fits_more one other more fit range s fits fixed enough = record {
+  stands = stands_more fit range s fits.stands;
+  follows = by_more one other more fit range s fits.stands.found fixed enough (flow fits.stands.found.instr) fits.follows;
 }
 
 -- the same of a call that is stepped over, and of a return
-module _ (one other : StackBounds) (more : one.length ≤ other.length) (image : Located) (range : Range) (interrupted : Bool) (quiet : ℕ → Bool) (code : List (Option ℕ)) (ways : Ways) (listed : Listed) (summaries : List Summary) (table : List FollowedState) (bytes : ℕ) (s : FollowedState) (enough : 2 ≤ count_of (stack_of s))
-    (fixed : (found : Fetched) → fetch_at image.regions (memory_of image.chunks) s.at ≡ Ok found → uses_pointer found.instr ≡ false) where
-  passes_more : (found : Fetched) → uses_pointer found.instr ≡ false → (w : Flow) → PassesBy image one interrupted quiet code ways listed summaries table bytes s found w → PassesBy (on_stack image range) other interrupted quiet code ways listed summaries table bytes s found w
-  passes_more found still (CallsIf condition to) passes = leads_more one other more image range interrupted code ways table bytes s found still enough false found.next (given condition false s.known) passes
-  passes_more found still (ReturnsIf condition) passes = leads_more one other more image range interrupted code ways table bytes s found still enough false found.next (given condition false s.known) passes
+module _ (one other : StackBounds) (more : one.length ≤ other.length) (fit : Fitting) (range : Range) (s : FollowedState) (enough : 2 ≤ count_of (stack_of s))
+    (fixed : (found : Fetched) → fetch_at fit.image.regions (memory_of fit.image.chunks) s.at ≡ Ok found → uses_pointer found.instr ≡ false) where
+  passes_more : (found : Fetched) → uses_pointer found.instr ≡ false → (w : Flow) → PassesBy one fit s found w → PassesBy other (moved fit range) s found w
+  passes_more found still (CallsIf condition to) passes = leads_more one other more fit range s found still enough false found.next (given condition false s.known) passes
+  passes_more found still (ReturnsIf condition) passes = leads_more one other more fit range s found still enough false found.next (given condition false s.known) passes
   passes_more found still w passes = tt
 
-  steps_more : StepsOver image one interrupted quiet code ways listed summaries table bytes s → StepsOver (on_stack image range) other interrupted quiet code ways listed summaries table bytes s
+  steps_more : StepsOver one fit s → StepsOver other (moved fit range) s
   steps_more steps = record {
-    stands = stands_more image range interrupted quiet listed bytes s steps.stands;
+    stands = stands_more fit range s steps.stands;
     summary = steps.summary;
     among = steps.among;
     calls = steps.calls;
@@ -134,17 +135,17 @@ module _ (one other : StackBounds) (more : one.length ≤ other.length) (image :
     passes = passes_more steps.stands.found (fixed steps.stands.found steps.stands.executed.fetched) (flow steps.stands.found.instr) steps.passes;
   }
 
-  backs_more : ReturnsBack image one interrupted quiet code ways listed summaries table bytes s → ReturnsBack (on_stack image range) other interrupted quiet code ways listed summaries table bytes s
+  backs_more : ReturnsBack one fit s → ReturnsBack other (moved fit range) s
   backs_more back = record {
-    stands = stands_more image range interrupted quiet listed bytes s back.stands;
+    stands = stands_more fit range s back.stands;
     returns = back.returns;
     back = back.back;
     alone = back.alone;
     passes = passes_more back.stands.found (fixed back.stands.found back.stands.executed.fetched) (flow back.stands.found.instr) back.passes;
   }
 
-  pub summary_more : ReturnsBack image one interrupted quiet code ways listed summaries table bytes s ⊎ Goes image one interrupted quiet code ways listed summaries table bytes s →
-      ReturnsBack (on_stack image range) other interrupted quiet code ways listed summaries table bytes s ⊎ Goes (on_stack image range) other interrupted quiet code ways listed summaries table bytes s
+  pub summary_more : ReturnsBack one fit s ⊎ Goes one fit s →
+      ReturnsBack other (moved fit range) s ⊎ Goes other (moved fit range) s
   summary_more (inl back) = inl (backs_more back)
-  summary_more (inr (inl fits)) = inr (inl (fits_more one other more image range interrupted quiet code ways listed table bytes s fits (fixed fits.stands.found fits.stands.executed.fetched) enough))
+  summary_more (inr (inl fits)) = inr (inl (fits_more one other more fit range s fits (fixed fits.stands.found fits.stands.executed.fetched) enough))
   summary_more (inr (inr steps)) = inr (inr (steps_more steps))

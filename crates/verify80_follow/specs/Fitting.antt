@@ -2,8 +2,13 @@
 -- own.)
 use Rattle.std.specs.Prelude.{◌≡◌, ◌≤◌, ◌+◌, ℕ, Bool, true, false, List, All}
 use Rattle.image80.specs.Image.{Located}
-use Rattle.verify80_follow.specs.declared.{fit.Table.Table, handling.Handler.Handler}
-use Rattle.verify80_follow.specs.{Follows.Follows, Follows.ways_of, Handling.IsHandled, Reaching.places_of}
+use Rattle.verify80_states.specs.Marks.{is_marked}
+use Rattle.verify80_follow.specs.declared.{fit.Fit.Fit, fit.Table.Table, handling.Handler.Handler}
+use Rattle.verify80_follow.specs.{Follows.Fitting, Follows.Follows, Follows.fitting, Follows.ways_of, Handling.IsHandled, Reaching.places_of}
+
+-- what a fit holds
+abbrev pub fitting_of : Fit → Fitting
+fitting_of fit = fitting fit.program.now fit.interrupted (is_marked fit.quiet.now) fit.code.now (ways_of fit.ways.now fit.places.now) fit.listed.now fit.summaries.now fit.table.now fit.bytes
 
 -- a program's table, with its summaries, follows its image, with no more bytes on the stack than STACK has; it believes of quiet addresses alone that
 -- nobody else writes them

@@ -64,6 +64,23 @@ pub record Ways : Type 0 where
 abbrev pub ways_of : List Way → (places : List ℕ) → Ways
 ways_of listed places = record { listed = listed; places = places }
 
+-- a table of states with what it is fitted to: a program and its code, whether that is interrupted, the quiet addresses, where returns go, what may be left
+-- open, and summaries of procedures; and how many bytes the stack has, at most
+pub record Fitting : Type 0 where
+  pub image : Located
+  pub interrupted : Bool
+  pub quiet : ℕ → Bool
+  pub code : List (Option ℕ)
+  pub ways : Ways
+  pub listed : Listed
+  pub summaries : List Summary
+  pub table : List FollowedState
+  pub bytes : ℕ
+
+abbrev pub fitting : Located → (interrupted : Bool) → (quiet : ℕ → Bool) → List (Option ℕ) → Ways → Listed → List Summary → List FollowedState → (bytes : ℕ) → Fitting
+fitting image interrupted quiet code ways listed summaries table bytes =
+    record { image = image; interrupted = interrupted; quiet = quiet; code = code; ways = ways; listed = listed; summaries = summaries; table = table; bytes = bytes }
+
 -- one of the places has a call that returns to an address
 pub record IsBehindCall (image : Located) (places : List ℕ) (to : ℕ) : Type 0 where
   pub at : ℕ
@@ -85,9 +102,9 @@ pub record CoversStack (table : List FollowedState) (bytes to : ℕ) (known : Kn
   pub covers : Covers table to known (beside stack) stack
 
 -- what an instruction makes of what is left of a state, if something is, is covered where it leads
-module _ (image : Located) (bounds : StackBounds) (interrupted : Bool) (code : List (Option ℕ)) (ways : Ways) (table : List FollowedState) (bytes : ℕ) (s : FollowedState) (found : Fetched) where
+module _ (bounds : StackBounds) (fit : Fitting) (s : FollowedState) (found : Fetched) where
   abbrev pub CoversThen : (taken : Bool) → (to : ℕ) → Known → Type 0
-  CoversThen taken to known = CoversStack table bytes to (known_after code found.instr (top_of_stack bounds (stack_of s)) known) (λ stack. beside_then found.instr (stack_of s) stack s.beside)
+  CoversThen taken to known = CoversStack fit.table fit.bytes to (known_after fit.code found.instr (top_of_stack bounds (stack_of s)) known) (λ stack. beside_then found.instr (stack_of s) stack s.beside)
       (stack_then bounds found.instr taken found.next known (stack_of s))
 
   abbrev pub LeadsTo : (taken : Bool) → (to : ℕ) → Option Known → Type 0
@@ -103,7 +120,7 @@ module _ (image : Located) (bounds : StackBounds) (interrupted : Bool) (code : L
     pub stack : stack_of s ≡ Some stacked
     pub to : ℕ
     pub is : return_address stacked ≡ Some to
-    pub way : IsWay image ways s.at to
+    pub way : IsWay fit.image fit.ways s.at to
     pub leads : CoversThen true to known
 
   abbrev pub ReturnsLeft : Option Known → Type 0
@@ -112,21 +129,21 @@ module _ (image : Located) (bounds : StackBounds) (interrupted : Bool) (code : L
   -- a PCHL goes to each declared target that HL may be; if none are declared, HL is known
   pub record JumpsByNumber : Type 0 where
     pub alone : is_alone s.known.hl.words ≡ true
-    pub way : IsWay image ways s.at s.known.hl.words.first
+    pub way : IsWay fit.image fit.ways s.at s.known.hl.words.first
     pub leads : CoversThen false s.known.hl.words.first s.known
 
   abbrev pub JumpsBy : (declared : Bool) → Type 0
   JumpsBy false = JumpsByNumber
-  JumpsBy true = (to : ℕ) → Contains (declared_targets image.regions s.at) to → Within s.known.hl.words to → CoversThen false to s.known
+  JumpsBy true = (to : ℕ) → Contains (declared_targets fit.image.regions s.at) to → Within s.known.hl.words to → CoversThen false to s.known
 
   -- a HLT is left as it was come to, if the program is interrupted and interrupts may come
   abbrev pub LeavesHalt : Type 0
-  LeavesHalt = interrupted ≡ true → s.beside.is_enabled ≡ true → Covers table found.next s.known s.beside (stack_of s)
+  LeavesHalt = fit.interrupted ≡ true → s.beside.is_enabled ≡ true → Covers fit.table found.next s.known s.beside (stack_of s)
 
   abbrev pub FollowsBy : Flow → Type 0
   FollowsBy (Jumps to) = LeadsTo false to (Some s.known)
   FollowsBy (JumpsIf condition to) = LeadsIf condition to
-  FollowsBy JumpsToHl = JumpsBy (is_declared image.regions s.at)
+  FollowsBy JumpsToHl = JumpsBy (is_declared fit.image.regions s.at)
   FollowsBy (Calls to) = LeadsTo true to (Some s.known)
   FollowsBy (CallsIf condition to) = LeadsIf condition to
   FollowsBy Returns = ReturnsLeft (Some s.known)
@@ -149,19 +166,23 @@ pub record IsShownOrListed (regions : Areas) (listed : Listed) (instr : Instr) (
   pub jumps : is_pchl instr ≡ true → is_declared regions s.at ≡ true →
       ((to : ℕ) → Within s.known.hl.words to → Contains (declared_targets regions s.at) to) ⊎ Contains listed.jumps.items s.at
 
--- a state stands at an instruction of the image that may be executed there; an interrupted program lets interrupts in only once SP is set
-pub record StateStands (image : Located) (interrupted : Bool) (quiet : ℕ → Bool) (listed : Listed) (bytes : ℕ) (s : FollowedState) : Type 0 where
+-- an instruction may be executed in a state; an interrupted program lets interrupts in only once SP is set
+pub record MayStand (fit : Fitting) (instr : Instr) (s : FollowedState) : Type 0 where
+  pub serves : fit.interrupted ≡ true → instr ≡ Ei → IsSome (stack_of s)
+  pub shown : IsShownOrListed fit.image.regions fit.listed instr s
+  pub depth : IfSome (stack_of s) (λ stack. length stack ≤ fit.bytes)
+  pub knows : IsQuietKnown fit.quiet s.known
+
+-- a state stands at an instruction of the image that may be executed there
+pub record StateStands (fit : Fitting) (s : FollowedState) : Type 0 where
   pub found : Fetched
-  pub executed : IsExecuted image interrupted s.at found
-  pub serves : interrupted ≡ true → found.instr ≡ Ei → IsSome (stack_of s)
-  pub shown : IsShownOrListed image.regions listed found.instr s
-  pub depth : IfSome (stack_of s) (λ stack. length stack ≤ bytes)
-  pub knows : IsQuietKnown quiet s.known
+  pub executed : IsExecuted fit.image fit.interrupted s.at found
+  pub may : MayStand fit found.instr s
 
 -- a state fits: what its instruction makes of it is covered where that leads
-pub record StateFollows (image : Located) (bounds : StackBounds) (interrupted : Bool) (quiet : ℕ → Bool) (code : List (Option ℕ)) (ways : Ways) (listed : Listed) (table : List FollowedState) (bytes : ℕ) (s : FollowedState) : Type 0 where
-  pub stands : StateStands image interrupted quiet listed bytes s
-  pub follows : FollowsBy image bounds interrupted code ways table bytes s stands.found (flow stands.found.instr)
+pub record StateFollows (bounds : StackBounds) (fit : Fitting) (s : FollowedState) : Type 0 where
+  pub stands : StateStands fit s
+  pub follows : FollowsBy bounds fit s stands.found (flow stands.found.instr)
 
 -- where an instruction calls
 abbrev pub called : Flow → Option ℕ
@@ -177,28 +198,28 @@ beside_call back = record nothing_beside { is_enabled = true; back = back }
 abbrev pub entered_stack : Option (List ByteSpan)
 entered_stack = Some (any_byte ∷ any_byte ∷ [])
 
-module _ (image : Located) (bounds : StackBounds) (interrupted : Bool) (quiet : ℕ → Bool) (code : List (Option ℕ)) (ways : Ways) (listed : Listed) (summaries : List Summary) (table : List FollowedState) (bytes : ℕ) (s : FollowedState) where
+module _ (bounds : StackBounds) (fit : Fitting) (s : FollowedState) where
   -- a call or return under a condition is covered behind it, as far as something is left without the condition
   abbrev pub PassesBy : Fetched → Flow → Type 0
-  PassesBy found (CallsIf condition to) = LeadsTo image bounds interrupted code ways table bytes s found false found.next (given condition false s.known)
-  PassesBy found (ReturnsIf condition) = LeadsTo image bounds interrupted code ways table bytes s found false found.next (given condition false s.known)
+  PassesBy found (CallsIf condition to) = LeadsTo bounds fit s found false found.next (given condition false s.known)
+  PassesBy found (ReturnsIf condition) = LeadsTo bounds fit s found false found.next (given condition false s.known)
   PassesBy found w = Unit {0}
 
   -- a call is stepped over: there is a summary of what it calls, room for that, and behind the call a state that knows the stack alone
   pub record StepsOver : Type 0 where
-    pub stands : StateStands image interrupted quiet listed bytes s
+    pub stands : StateStands fit s
     pub summary : Summary
-    pub among : Contains summaries summary
+    pub among : Contains fit.summaries summary
     pub calls : called (flow stands.found.instr) ≡ Some summary.at
     pub stack : List ByteSpan
     pub is : stack_of s ≡ Some stack
-    pub room : length stack + summary.bytes ≤ bytes
-    pub behind : Has table stands.found.next nothing_known (beside_call s.beside.back) (Some stack)
+    pub room : length stack + summary.bytes ≤ fit.bytes
+    pub behind : Has fit.table stands.found.next nothing_known (beside_call s.beside.back) (Some stack)
     pub passes : PassesBy stands.found (flow stands.found.instr)
 
   -- a summary's procedure returns: only the address to which it returns is on the stack
   pub record ReturnsBack : Type 0 where
-    pub stands : StateStands image interrupted quiet listed bytes s
+    pub stands : StateStands fit s
     pub returns : is_return (flow stands.found.instr) ≡ true
     pub back : s.beside.back ≡ Some 2
     pub alone : count_of (stack_of s) ≡ 2
@@ -206,22 +227,26 @@ module _ (image : Located) (bounds : StackBounds) (interrupted : Bool) (quiet : 
 
   -- a state fits, or its call is stepped over
   abbrev pub Goes : Type 0
-  Goes = StateFollows image bounds interrupted quiet code ways listed table bytes s ⊎ StepsOver
+  Goes = StateFollows bounds fit s ⊎ StepsOver
 
   -- a state of a summary: it doesn't depend on where the stack lies, has at least the address to which the procedure returns on its stack, and goes as
   -- any does or returns
   pub record Summarizes : Type 0 where
     pub enough : 2 ≤ count_of (stack_of s)
-    pub few : count_of (stack_of s) ≤ bytes
-    pub fixed : (found : Fetched) → fetch_at image.regions (memory_of image.chunks) s.at ≡ Ok found → uses_pointer found.instr ≡ false
+    pub few : count_of (stack_of s) ≤ fit.bytes
+    pub fixed : (found : Fetched) → fetch_at fit.image.regions (memory_of fit.image.chunks) s.at ≡ Ok found → uses_pointer found.instr ≡ false
     pub goes : ReturnsBack ⊎ Goes
 
+-- a summary's table, fitted to what the program's is
+abbrev pub summary_fitting : Fitting → Summary → Fitting
+summary_fitting fit summary = record fit { table = summary.states.items; bytes = summary.bytes }
+
 -- a summary's table follows its procedure from where that is entered, with no more bytes on the stack than the summary says
-pub record FitsSummary (image : Located) (interrupted : Bool) (quiet : ℕ → Bool) (code : List (Option ℕ)) (ways : Ways) (listed : Listed) (summaries : List Summary) (summary : Summary) : Type 0 where
+pub record FitsSummary (fit : Fitting) (summary : Summary) : Type 0 where
   pub bounds : StackBounds
   pub room : bounds.length ≤ summary.bytes
   pub start : Has summary.states.items summary.at nothing_known (beside_call (Some 2)) entered_stack
-  pub states : All (λ s. Summarizes image bounds interrupted quiet code ways listed summaries summary.states.items summary.bytes s) summary.states.items
+  pub states : All (Summarizes bounds (summary_fitting fit summary)) summary.states.items
 
 -- the stack at the image's start: empty if the pointer is at its top, or not set
 abbrev pub first_stack : (is_set : Bool) → Option (List ByteSpan)
@@ -234,8 +259,8 @@ pub record Follows (image : Located) (interrupted : Bool) (quiet : ℕ → Bool)
   pub are_code : AreCodeBytes image code
   pub start : Has table image.start nothing_known nothing_beside (first_stack is_set)
   pub summaries : List Summary
-  pub states : All (λ s. Goes image (bounds_of image) interrupted quiet code ways listed summaries table bytes s) table
-  pub fit : All (λ summary. FitsSummary image interrupted quiet code ways listed summaries summary) summaries
+  pub states : All (Goes (bounds_of image) (fitting image interrupted quiet code ways listed summaries table bytes)) table
+  pub fit : All (FitsSummary (fitting image interrupted quiet code ways listed summaries table bytes)) summaries
 
 -- where the states of a table stand, and those of its summaries
 abbrev pub places_among : List FollowedState → List Summary → List ℕ

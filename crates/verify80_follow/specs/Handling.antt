@@ -14,7 +14,7 @@ use Rattle.verify80_states.specs.{Known.IsQuietKnown, Known.nothing_known, Steps
 use Rattle.verify80_stores.specs.Opening.{pointer_span}
 use Rattle.verify80_follow.specs.declared.handling.Handler.{Handler}
 use Rattle.verify80_follow.specs.declared.{followed.FollowedState.FollowedState, followed.Listed.Listed, followed.Way.Way, held.Beside.Beside, held.HeldPair.HeldPair, stack.StackBounds.StackBounds}
-use Rattle.verify80_follow.specs.{Follows.Has, Follows.IsExecuted, Follows.StateFollows, Follows.Ways, Follows.entered_stack, Follows.stack_of, Follows.uses_pointer, Follows.ways_of, Held.count_of, Held.nothing_beside}
+use Rattle.verify80_follow.specs.{Follows.Fitting, Follows.Has, Follows.IsExecuted, Follows.StateFollows, Follows.Ways, Follows.entered_stack, Follows.stack_of, Follows.uses_pointer, Follows.fitting, Follows.ways_of, Held.count_of, Held.nothing_beside}
 
 -- an image with another stack, of which a handler has a part
 abbrev pub on_stack : Located → Range → Located
@@ -53,23 +53,27 @@ EndsAt image main found s = ((found.instr ≡ Ret) × GivesBack s) ⊎ BeginsAne
 
 -- a state of a handler: the handler ends there, or the state fits as any does, and doesn't depend on where the stack lies. It has at least the word to which
 -- the handler returns on its stack, lets interrupts in only directly before that returns, and stores only to data that handlers write.
-pub record Handles (image : Located) (main : List FollowedState) (written : ℕ → Bool) (bounds : StackBounds) (quiet : ℕ → Bool) (code : List (Option ℕ)) (ways : Ways) (listed : Listed) (table : List FollowedState) (bytes : ℕ) (s : FollowedState) : Type 0 where
+pub record Handles (main : List FollowedState) (written : ℕ → Bool) (bounds : StackBounds) (fit : Fitting) (s : FollowedState) : Type 0 where
   pub found : Fetched
-  pub executed : IsExecuted image true s.at found
+  pub executed : IsExecuted fit.image fit.interrupted s.at found
   pub enough : 2 ≤ count_of (stack_of s)
-  pub few : count_of (stack_of s) ≤ bytes
-  pub lets : found.instr ≡ Ei → GivesBack s × IsReturn image found.next
-  pub direct : All (λ a. in_data image.regions a ≡ true → written a ≡ true) (direct_bytes found.instr)
-  pub knows : IsQuietKnown quiet s.known
-  pub pointed : (span : Span) → pointer_span found.instr s.known ≡ Some span → (a : ℕ) → Within span a → in_data image.regions a ≡ true → written a ≡ true
-  pub goes : EndsAt image main found s ⊎ ((uses_pointer found.instr ≡ false) × StateFollows image bounds true quiet code ways listed table bytes s)
+  pub few : count_of (stack_of s) ≤ fit.bytes
+  pub lets : found.instr ≡ Ei → GivesBack s × IsReturn fit.image found.next
+  pub direct : All (λ a. in_data fit.image.regions a ≡ true → written a ≡ true) (direct_bytes found.instr)
+  pub knows : IsQuietKnown fit.quiet s.known
+  pub pointed : (span : Span) → pointer_span found.instr s.known ≡ Some span → (a : ℕ) → Within span a → in_data fit.image.regions a ≡ true → written a ≡ true
+  pub goes : EndsAt fit.image main found s ⊎ ((uses_pointer found.instr ≡ false) × StateFollows bounds fit s)
+
+-- a handler's table with what it is fitted to; no call is stepped over there
+abbrev pub handler_fitting : Located → (quiet : ℕ → Bool) → List (Option ℕ) → Ways → Listed → List FollowedState → (bytes : ℕ) → Fitting
+handler_fitting image quiet code ways listed table bytes = fitting image true quiet code ways listed [] table bytes
 
 -- a table follows the handler at an address, with no more bytes on the stack than these, the two of the interrupt among them
 pub record HandlesAt (image : Located) (main : List FollowedState) (written : ℕ → Bool) (bounds : StackBounds) (quiet : ℕ → Bool) (ways : Ways) (listed : Listed) (table : List FollowedState) (bytes at : ℕ) : Type 0 where
   pub code : List (Option ℕ)
   pub are_code : AreCodeBytes image code
   pub start : Has table at nothing_known entered_beside entered_stack
-  pub states : All (λ s. Handles image main written bounds quiet code ways listed table bytes s) table
+  pub states : All (Handles main written bounds (handler_fitting image quiet code ways listed table bytes)) table
 
 -- a handler's table, with its ways, which are among all of handlers, the bytes of stack that it has at most, and how its stack was bounded when it was
 -- checked

@@ -10,3 +10,4 @@ pub mod FollowText
 pub mod Reaching
 -- what the crate's own functions promise one another: no public contract cites these
 pub mod Writes
+pub mod StepLaws

@@ -1,14 +1,14 @@
 //! Whether calls are stepped over, and summaries follow their procedures.
 
 ghost use Rattle.std.specs.Prelude.{◌≡◌, ◌≤◌, ◌+◌, Ok, Some, false, true, All, Contains, IfOk, IfSome, length};
-ghost use Rattle.std.specs.Option.{option_map};
 ghost use Rattle.decode80.specs.Facts.{flow};
 ghost use Rattle.image80.specs.Image.{memory_of};
 ghost use Rattle.verify80.specs.LookLaws.{fetch_at};
-ghost use Rattle.verify80_states.specs.{Known.nothing_known, Marks.is_marked, Steps.AreCodeBytes};
+ghost use Rattle.verify80_states.specs.Known.{nothing_known};
 ghost use Rattle.verify80_stores.specs.DataReach.{AreDataEnds};
-ghost use Rattle.verify80_follow.specs.Follows.{FitsSummary, Goes, Has, PassesBy, ReturnsBack, StateFollows, StateStands, StepsOver};
-ghost use Rattle.verify80_follow.specs.Follows.{Summarizes, beside_call, called, entered_stack, is_return, stack_of, uses_pointer, ways_of};
+ghost use Rattle.verify80_follow.specs.Follows.{FitsSummary, Goes, Has, PassesBy, ReturnsBack, StepsOver};
+ghost use Rattle.verify80_follow.specs.Follows.{Summarizes, beside_call, called, entered_stack, is_return, stack_of, uses_pointer};
+ghost use Rattle.verify80_follow.specs.Fitting.{fitting_of};
 ghost use Rattle.verify80_follow.specs.Held.{count_of};
 
 use crate::fit::{Fit, Standing};
@@ -71,7 +71,7 @@ pub fn is_last(state: &FollowedState) -> bool
 impl Fit<'_> {
     /// Whether a call or return under a condition is covered behind it, by the third hint.
     fn passes_by(&self, alloc: Global, here: Standing<'_>) -> Result<bool, AllocError>
-        ensures { IfOk result (λ passes. passes ≡ true → PassesBy self.now.program.now self.now.bounds self.now.interrupted (is_marked self.now.quiet.now) self.now.code.now (ways_of self.now.ways.now self.now.places.now) self.now.listed.now self.now.summaries.now self.now.table.now self.now.bytes here.entry.state.now here.entry.found (flow here.entry.found.instr)) }
+        ensures { IfOk result (λ passes. passes ≡ true → PassesBy self.now.bounds (fitting_of self.now) here.entry.state.now here.entry.found (flow here.entry.found.instr)) }
     {
         let known = here.state.known;
         match here.found.instr.flow() {
@@ -105,7 +105,7 @@ impl Fit<'_> {
     fn steps_over(&self, alloc: Global, state: &FollowedState) -> Result<bool, AllocError>
         requires regions { self.now.regions.now ≡ self.now.program.now.regions }
         requires ends { AreDataEnds self.now.regions.now self.now.ends.now }
-        ensures { IfOk result (λ steps. steps ≡ true → StepsOver self.now.program.now self.now.bounds self.now.interrupted (is_marked self.now.quiet.now) self.now.code.now (ways_of self.now.ways.now self.now.places.now) self.now.listed.now self.now.summaries.now self.now.table.now self.now.bytes state.now) }
+        ensures { IfOk result (λ steps. steps ≡ true → StepsOver self.now.bounds (fitting_of self.now) state.now) }
     {
         let Some(executed) = self.executed(state.at) else {
             return Ok(false);
@@ -132,7 +132,7 @@ impl Fit<'_> {
     fn goes(&self, alloc: Global, state: &FollowedState) -> Result<bool, AllocError>
         requires regions { self.now.regions.now ≡ self.now.program.now.regions }
         requires ends { AreDataEnds self.now.regions.now self.now.ends.now }
-        ensures { IfOk result (λ goes. goes ≡ true → Goes self.now.program.now self.now.bounds self.now.interrupted (is_marked self.now.quiet.now) self.now.code.now (ways_of self.now.ways.now self.now.places.now) self.now.listed.now self.now.summaries.now self.now.table.now self.now.bytes state.now) }
+        ensures { IfOk result (λ goes. goes ≡ true → Goes self.now.bounds (fitting_of self.now) state.now) }
     {
         if self.state_follows(alloc, state)? {
             return Ok(true);
@@ -144,7 +144,7 @@ impl Fit<'_> {
     pub(crate) fn all_go(&self, alloc: Global) -> Result<bool, AllocError>
         requires regions { self.now.regions.now ≡ self.now.program.now.regions }
         requires ends { AreDataEnds self.now.regions.now self.now.ends.now }
-        ensures { IfOk result (λ go. go ≡ true → All (λ s. Goes self.now.program.now self.now.bounds self.now.interrupted (is_marked self.now.quiet.now) self.now.code.now (ways_of self.now.ways.now self.now.places.now) self.now.listed.now self.now.summaries.now self.now.table.now self.now.bytes s) self.now.table.now) }
+        ensures { IfOk result (λ go. go ≡ true → All (Goes self.now.bounds (fitting_of self.now)) self.now.table.now) }
     {
         for place in 0..self.table.len() {
             if !self.goes(alloc, &self.table[place])? {
@@ -158,7 +158,7 @@ impl Fit<'_> {
     fn returns_back(&self, alloc: Global, state: &FollowedState) -> Result<bool, AllocError>
         requires regions { self.now.regions.now ≡ self.now.program.now.regions }
         requires ends { AreDataEnds self.now.regions.now self.now.ends.now }
-        ensures { IfOk result (λ returns. returns ≡ true → ReturnsBack self.now.program.now self.now.bounds self.now.interrupted (is_marked self.now.quiet.now) self.now.code.now (ways_of self.now.ways.now self.now.places.now) self.now.listed.now self.now.summaries.now self.now.table.now self.now.bytes state.now) }
+        ensures { IfOk result (λ returns. returns ≡ true → ReturnsBack self.now.bounds (fitting_of self.now) state.now) }
     {
         let Some(executed) = self.executed(state.at) else {
             return Ok(false);
@@ -173,7 +173,7 @@ impl Fit<'_> {
         self.passes_by(alloc, Standing { state, found })
     }
 
-    /// Whether the instruction at a state depends on where the stack lies.
+    /// Whether there is an instruction at a state, and it doesn't depend on where the stack lies.
     fn is_fixed(&self, state: &FollowedState) -> bool
         ensures { result ≡ true → (found : Fetched) → fetch_at self.now.program.now.regions (memory_of self.now.program.now.chunks) state.now.at ≡ Ok found → uses_pointer found.instr ≡ false }
     {
@@ -187,7 +187,7 @@ impl Fit<'_> {
     fn summarizes(&self, alloc: Global, state: &FollowedState) -> Result<bool, AllocError>
         requires regions { self.now.regions.now ≡ self.now.program.now.regions }
         requires ends { AreDataEnds self.now.regions.now self.now.ends.now }
-        ensures { IfOk result (λ summarizes. summarizes ≡ true → Summarizes self.now.program.now self.now.bounds self.now.interrupted (is_marked self.now.quiet.now) self.now.code.now (ways_of self.now.ways.now self.now.places.now) self.now.listed.now self.now.summaries.now self.now.table.now self.now.bytes state.now) }
+        ensures { IfOk result (λ summarizes. summarizes ≡ true → Summarizes self.now.bounds (fitting_of self.now) state.now) }
     {
         if !has_room(state, self.bytes) || !self.is_fixed(state) {
             return Ok(false);
@@ -202,7 +202,7 @@ impl Fit<'_> {
     fn all_summarize(&self, alloc: Global) -> Result<bool, AllocError>
         requires regions { self.now.regions.now ≡ self.now.program.now.regions }
         requires ends { AreDataEnds self.now.regions.now self.now.ends.now }
-        ensures { IfOk result (λ summarize. summarize ≡ true → All (λ s. Summarizes self.now.program.now self.now.bounds self.now.interrupted (is_marked self.now.quiet.now) self.now.code.now (ways_of self.now.ways.now self.now.places.now) self.now.listed.now self.now.summaries.now self.now.table.now self.now.bytes s) self.now.table.now) }
+        ensures { IfOk result (λ summarize. summarize ≡ true → All (Summarizes self.now.bounds (fitting_of self.now)) self.now.table.now) }
     {
         for place in 0..self.table.len() {
             if !self.summarizes(alloc, &self.table[place])? {
@@ -230,7 +230,7 @@ impl Fit<'_> {
     fn fits_summary(&self, alloc: Global, summary: &Summary) -> Result<bool, AllocError>
         requires regions { self.now.regions.now ≡ self.now.program.now.regions }
         requires ends { AreDataEnds self.now.regions.now self.now.ends.now }
-        ensures { IfOk result (λ fits. fits ≡ true → FitsSummary self.now.program.now self.now.interrupted (is_marked self.now.quiet.now) self.now.code.now (ways_of self.now.ways.now self.now.places.now) self.now.listed.now self.now.summaries.now summary.now) }
+        ensures { IfOk result (λ fits. fits ≡ true → FitsSummary (fitting_of self.now) summary.now) }
     {
         let fit = Fit {
             table: &summary.states,
@@ -262,7 +262,7 @@ impl Fit<'_> {
     pub(crate) fn fits_summaries(&self, alloc: Global) -> Result<bool, AllocError>
         requires regions { self.now.regions.now ≡ self.now.program.now.regions }
         requires ends { AreDataEnds self.now.regions.now self.now.ends.now }
-        ensures { IfOk result (λ fit. fit ≡ true → All (λ summary. FitsSummary self.now.program.now self.now.interrupted (is_marked self.now.quiet.now) self.now.code.now (ways_of self.now.ways.now self.now.places.now) self.now.listed.now self.now.summaries.now summary) self.now.summaries.now) }
+        ensures { IfOk result (λ fit. fit ≡ true → All (FitsSummary (fitting_of self.now)) self.now.summaries.now) }
     {
         for place in 0..self.summaries.len() {
             if !self.fits_summary(alloc, &self.summaries[place])? {

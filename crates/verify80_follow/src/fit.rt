@@ -1,15 +1,15 @@
 //! Whether a table of states follows an image.
 
-ghost use Rattle.std.specs.Prelude.{◌≡◌, ◌⊎◌, ◌≤◌, ℕ, Bool, false, true, All, Any, Contains, IfOk, IfSome, IsSome, [], length};
+ghost use Rattle.std.specs.Prelude.{◌≡◌, ◌⊎◌, ◌≤◌, ℕ, false, true, Any, Contains, IfOk, IfSome, IsSome, [], length};
 ghost use Rattle.std.specs.Option.{option_map};
 ghost use Rattle.image80.specs.{Image.memory_of, Regions.AreRegions, Regions.in_data};
 ghost use Rattle.verify80_spans.specs.Span.{Within, ByteWithin, IsInside, byte_alone};
-ghost use Rattle.verify80_states.specs.{Known.IsKnownInside, Known.IsQuietKnown, Known.cut, Known.nothing_known, Following.known_after, Marks.is_marked, QuietBoards.is_quiet, Steps.AreCodeBytes};
+ghost use Rattle.verify80_states.specs.{Known.IsKnownInside, Known.cut, Known.nothing_known, Following.known_after, Marks.is_marked, QuietBoards.is_quiet, Steps.AreCodeBytes};
 ghost use Rattle.verify80_follow.specs.Follows.{Covers, CoversStack, CoversThen, Follows, FollowsBy, Has, IsBehindCall, IsWay};
-ghost use Rattle.verify80_follow.specs.Follows.{JumpsBy, IsExecuted, IsShownOrListed, JumpsByNumber, LeadsIf, LeadsTo, LeavesHalt, ways_of};
-ghost use Rattle.verify80_follow.specs.Follows.{ReturnsLeft, ReturnsTo, StateFollows, first_stack, is_call, stack_of};
+ghost use Rattle.verify80_follow.specs.Follows.{JumpsBy, IsExecuted, IsShownOrListed, JumpsByNumber, LeadsIf, LeadsTo, LeavesHalt, MayStand, ways_of};
+ghost use Rattle.verify80_follow.specs.Follows.{ReturnsLeft, StateFollows, first_stack, is_call, stack_of};
 ghost use Rattle.verify80_follow.specs.Held.{IsBesideInside, beside_then, nothing_beside};
-ghost use Rattle.verify80_follow.specs.{Fitting.IsFit, Promise.PromiseOf, Reaching.places_of};
+ghost use Rattle.verify80_follow.specs.{Fitting.IsFit, Fitting.fitting_of, Promise.PromiseOf, Reaching.places_of};
 ghost use Rattle.verify80_follow.specs.Stack.{IsStackInside, after_of, bounds_of};
 ghost use Rattle.decode80.specs.{Facts.flow, declared.flow.Flow.TheVariants.JumpsToHl, declared.instr.Instr.TheVariants.Ei};
 ghost use Rattle.verify80.specs.{LookLaws.fetch_at, Looking.declared_targets, Looking.is_declared};
@@ -239,7 +239,7 @@ impl Fit<'_> {
         way: Onward,
         known: Known,
     ) -> Result<bool, AllocError>
-        ensures { IfOk result (λ covers. covers ≡ true → CoversThen self.now.program.now self.now.bounds self.now.interrupted self.now.code.now (ways_of self.now.ways.now self.now.places.now) self.now.table.now self.now.bytes here.entry.state.now here.entry.found way.taken way.to known) }
+        ensures { IfOk result (λ covers. covers ≡ true → CoversThen self.now.bounds (fitting_of self.now) here.entry.state.now here.entry.found way.taken way.to known) }
     {
         let Standing { state, found } = here;
         let bounds = self.bounds;
@@ -285,7 +285,7 @@ impl Fit<'_> {
         way: Onward,
         left: Option<Known>,
     ) -> Result<bool, AllocError>
-        ensures { IfOk result (λ leads. leads ≡ true → LeadsTo self.now.program.now self.now.bounds self.now.interrupted self.now.code.now (ways_of self.now.ways.now self.now.places.now) self.now.table.now self.now.bytes here.entry.state.now here.entry.found way.taken way.to left) }
+        ensures { IfOk result (λ leads. leads ≡ true → LeadsTo self.now.bounds (fitting_of self.now) here.entry.state.now here.entry.found way.taken way.to left) }
     {
         match left {
             None => Ok(true),
@@ -301,7 +301,7 @@ impl Fit<'_> {
         condition: Condition,
         to: u16,
     ) -> Result<bool, AllocError>
-        ensures { IfOk result (λ leads. leads ≡ true → LeadsIf self.now.program.now self.now.bounds self.now.interrupted self.now.code.now (ways_of self.now.ways.now self.now.places.now) self.now.table.now self.now.bytes here.entry.state.now here.entry.found condition to) }
+        ensures { IfOk result (λ leads. leads ≡ true → LeadsIf self.now.bounds (fitting_of self.now) here.entry.state.now here.entry.found condition to) }
     {
         let known = here.state.known;
         let taken = self.leads_to(alloc, here, here.taken(to), given(condition, true, known))?;
@@ -366,7 +366,7 @@ impl Fit<'_> {
         here: Standing<'_>,
         left: Option<Known>,
     ) -> Result<bool, AllocError>
-        ensures { IfOk result (λ returns. returns ≡ true → ReturnsLeft self.now.program.now self.now.bounds self.now.interrupted self.now.code.now (ways_of self.now.ways.now self.now.places.now) self.now.table.now self.now.bytes here.entry.state.now here.entry.found left) }
+        ensures { IfOk result (λ returns. returns ≡ true → ReturnsLeft self.now.bounds (fitting_of self.now) here.entry.state.now here.entry.found left) }
     {
         let Some(known) = left else {
             return Ok(true);
@@ -382,7 +382,7 @@ impl Fit<'_> {
 
     /// Whether a PCHL without declared targets goes where HL is known to be, may go there, and the state is covered there.
     fn jumps_by_number(&self, alloc: Global, here: Standing<'_>) -> Result<bool, AllocError>
-        ensures { IfOk result (λ jumps. jumps ≡ true → JumpsByNumber self.now.program.now self.now.bounds self.now.interrupted self.now.code.now (ways_of self.now.ways.now self.now.places.now) self.now.table.now self.now.bytes here.entry.state.now here.entry.found) }
+        ensures { IfOk result (λ jumps. jumps ≡ true → JumpsByNumber self.now.bounds (fitting_of self.now) here.entry.state.now here.entry.found) }
     {
         let state = here.state;
         let words = state.known.hl.words;
@@ -394,7 +394,7 @@ impl Fit<'_> {
 
     /// Whether a PCHL is covered at each of its declared targets that HL may be.
     fn jumps_to_each(&self, alloc: Global, here: Standing<'_>) -> Result<bool, AllocError>
-        ensures { IfOk result (λ jumps. jumps ≡ true → JumpsBy self.now.program.now self.now.bounds self.now.interrupted self.now.code.now (ways_of self.now.ways.now self.now.places.now) self.now.table.now self.now.bytes here.entry.state.now here.entry.found true) }
+        ensures { IfOk result (λ jumps. jumps ≡ true → JumpsBy self.now.bounds (fitting_of self.now) here.entry.state.now here.entry.found true) }
     {
         let targets = self.program.targets(here.state.at);
         for place in 0..targets.len() {
@@ -413,7 +413,7 @@ impl Fit<'_> {
         place: usize,
         to: u16,
     ) -> Result<bool, AllocError>
-        ensures { IfOk result (λ covers. covers ≡ true → Within here.entry.state.now.known.hl.words to → CoversThen self.now.program.now self.now.bounds self.now.interrupted self.now.code.now (ways_of self.now.ways.now self.now.places.now) self.now.table.now self.now.bytes here.entry.state.now here.entry.found false to here.entry.state.now.known) }
+        ensures { IfOk result (λ covers. covers ≡ true → Within here.entry.state.now.known.hl.words to → CoversThen self.now.bounds (fitting_of self.now) here.entry.state.now here.entry.found false to here.entry.state.now.known) }
     {
         let known = here.state.known;
         let words = known.hl.words;
@@ -431,7 +431,7 @@ impl Fit<'_> {
         by_targets: bool,
     ) -> Result<bool, AllocError>
         requires declared { flow here.found.instr ≡ JumpsToHl → is_declared self.now.program.now.regions here.state.now.at ≡ by_targets }
-        ensures { IfOk result (λ follows. follows ≡ true → FollowsBy self.now.program.now self.now.bounds self.now.interrupted self.now.code.now (ways_of self.now.ways.now self.now.places.now) self.now.table.now self.now.bytes here.entry.state.now here.entry.found (flow here.entry.found.instr)) }
+        ensures { IfOk result (λ follows. follows ≡ true → FollowsBy self.now.bounds (fitting_of self.now) here.entry.state.now here.entry.found (flow here.entry.found.instr)) }
     {
         let known = here.state.known;
         match here.found.instr.flow() {
@@ -458,7 +458,7 @@ impl Fit<'_> {
 
     /// Whether a HLT is covered behind it as it is come to, if the program is interrupted and interrupts may come.
     fn leaves_halt(&self, here: Standing<'_>) -> bool
-        ensures { result ≡ true → LeavesHalt self.now.program.now self.now.bounds self.now.interrupted self.now.code.now (ways_of self.now.ways.now self.now.places.now) self.now.table.now self.now.bytes here.entry.state.now here.entry.found }
+        ensures { result ≡ true → LeavesHalt self.now.bounds (fitting_of self.now) here.entry.state.now here.entry.found }
     {
         let Standing { state, found } = here;
         !self.interrupted
@@ -558,16 +558,18 @@ impl Fit<'_> {
 
     /// Whether an instruction may be executed in a state.
     pub(crate) fn may_stand(&self, instr: Instr, state: &FollowedState) -> bool
+        requires regions { self.now.regions.now ≡ self.now.program.now.regions }
         requires ends { AreDataEnds self.now.regions.now self.now.ends.now }
-        ensures shown { result ≡ true → IsShownOrListed self.now.regions.now self.now.listed.now instr state.now }
-        ensures serves { result ≡ true → self.now.interrupted ≡ true → instr ≡ Ei → IsSome (stack_of state.now) }
-        ensures depth { result ≡ true → IfSome (stack_of state.now) (λ stack. length stack ≤ self.now.bytes) }
-        ensures knows { result ≡ true → IsQuietKnown (is_marked self.now.quiet.now) state.now.known }
+        ensures { result ≡ true → MayStand (fitting_of self.now) instr state.now }
     {
-        state.known.is_quiet(self.quiet)
-            && is_within(state.bytes(), self.bytes)
-            && self.is_shown_or_listed(instr, state)
-            && self.serves(instr, state)
+        if !state.known.is_quiet(self.quiet)
+            || !is_within(state.bytes(), self.bytes)
+            || !self.is_shown_or_listed(instr, state)
+            || !self.serves(instr, state)
+        {
+            return false;
+        }
+        true
     }
 
     /// Whether a state fits the instruction at its address.
@@ -578,7 +580,7 @@ impl Fit<'_> {
     ) -> Result<bool, AllocError>
         requires regions { self.now.regions.now ≡ self.now.program.now.regions }
         requires ends { AreDataEnds self.now.regions.now self.now.ends.now }
-        ensures { IfOk result (λ follows. follows ≡ true → StateFollows self.now.program.now self.now.bounds self.now.interrupted (is_marked self.now.quiet.now) self.now.code.now (ways_of self.now.ways.now self.now.places.now) self.now.listed.now self.now.table.now self.now.bytes state.now) }
+        ensures { IfOk result (λ follows. follows ≡ true → StateFollows self.now.bounds (fitting_of self.now) state.now) }
     {
         let Some(executed) = self.executed(state.at) else {
             return Ok(false);
@@ -664,7 +666,7 @@ fn follows_marked(
     fits(alloc, image, table, &places, code, quiet, run)
 }
 
-/// By address the number of a place there, if there is one: 65,536 entries.
+/// By address the number of a place there: 65,536 entries. It is 0 elsewhere, too: who looks a number up compares the place's own address.
 pub(crate) fn number_places(alloc: Global, places: &[u16]) -> Result<Vec<u32>, AllocError> {
     let mut numbers = vec![in alloc; 0; 65_536]?;
     for (number, place) in places.iter().enumerate() {

@@ -6,10 +6,10 @@ ghost use Rattle.image80.specs.Regions.{AreRegions, in_data};
 ghost use Rattle.verify80_spans.specs.Span.{Within};
 ghost use Rattle.verify80_states.specs.{Known.IsKnownInside, Known.nothing_known, Marks.is_marked, QuietBoards.is_quiet, Steps.AreCodeBytes};
 ghost use Rattle.verify80_stores.specs.{DataReach.AreDataEnds, Opening.pointer_span};
-ghost use Rattle.verify80_follow.specs.Follows.{Has, stack_of, uses_pointer, entered_stack, ways_of};
+ghost use Rattle.verify80_follow.specs.Follows.{Has, stack_of, uses_pointer, entered_stack};
 ghost use Rattle.verify80_follow.specs.Held.{IsBesideInside, count_of, nothing_beside};
 ghost use Rattle.verify80_follow.specs.Handling.{BeginsAnew, GivesBack, Handles, IsHandled, IsReturn, entered_beside};
-ghost use Rattle.verify80_follow.specs.{Fitting.AreFit, Live.PromiseOfLive, Live.handler_bounds, Live.handler_ways, Reaching.places_of};
+ghost use Rattle.verify80_follow.specs.{Fitting.AreFit, Fitting.fitting_of, Live.PromiseOfLive, Live.handler_bounds, Live.handler_ways, Reaching.places_of};
 ghost use Rattle.verify80_follow.specs.Stack.{IsStackInside};
 ghost use Rattle.verify80_follow.specs.Writes.{AreWriteEnds, MayBeWritten};
 
@@ -59,6 +59,12 @@ pub(crate) struct Around<'a> {
     pub anew: &'a [bool],
     /// The data that handlers write.
     pub writes: Writes<'a>,
+    /// Where states stand behind whose calls returns may go.
+    pub places: &'a [u16],
+    /// The stores and jumps that may be left open.
+    pub listed: &'a Listed,
+    /// How many bytes a handler has on the stack, at most.
+    pub most: u16,
 }
 
 impl Fit<'_> {
@@ -107,10 +113,9 @@ impl Fit<'_> {
         requires regions { self.now.regions.now ≡ self.now.program.now.regions }
         requires written { around.writes.regions.now ≡ self.now.program.now.regions }
         requires ends { AreDataEnds self.now.regions.now self.now.ends.now }
-        requires interrupted { self.now.interrupted ≡ true }
         requires anew { (at : ℕ) → is_marked around.anew.now at ≡ true → Has around.main.now at nothing_known nothing_beside (Some []) }
         requires writes { AreWriteEnds around.writes.regions.now around.writes.marks.now around.writes.ends.now }
-        ensures { IfOk result (λ handles. handles ≡ true → Handles self.now.program.now around.entry.main.now (is_marked around.entry.writes.marks.now) self.now.bounds (is_marked self.now.quiet.now) self.now.code.now (ways_of self.now.ways.now self.now.places.now) self.now.listed.now self.now.table.now self.now.bytes state.now) }
+        ensures { IfOk result (λ handles. handles ≡ true → Handles around.entry.main.now (is_marked around.entry.writes.marks.now) self.now.bounds (fitting_of self.now) state.now) }
     {
         let Some(executed) = self.executed(state.at) else {
             return Ok(false);
@@ -137,10 +142,9 @@ impl Fit<'_> {
         requires regions { self.now.regions.now ≡ self.now.program.now.regions }
         requires written { around.writes.regions.now ≡ self.now.program.now.regions }
         requires ends { AreDataEnds self.now.regions.now self.now.ends.now }
-        requires interrupted { self.now.interrupted ≡ true }
         requires anew { (at : ℕ) → is_marked around.anew.now at ≡ true → Has around.main.now at nothing_known nothing_beside (Some []) }
         requires writes { AreWriteEnds around.writes.regions.now around.writes.marks.now around.writes.ends.now }
-        ensures { IfOk result (λ handle. handle ≡ true → All (λ s. Handles self.now.program.now around.entry.main.now (is_marked around.entry.writes.marks.now) self.now.bounds (is_marked self.now.quiet.now) self.now.code.now (ways_of self.now.ways.now self.now.places.now) self.now.listed.now self.now.table.now self.now.bytes s) self.now.table.now) }
+        ensures { IfOk result (λ handle. handle ≡ true → All (Handles around.entry.main.now (is_marked around.entry.writes.marks.now) self.now.bounds (fitting_of self.now)) self.now.table.now) }
     {
         for place in 0..self.table.len() {
             if !self.handles_state(alloc, &self.table[place], around)? {
@@ -342,7 +346,7 @@ fn are_all_handled<'a>(
     image: &'a Image,
     table: &'a Table,
     handlers: &[Handler],
-    places: &[u16],
+    places: &'a [u16],
     looked: Looked<'a>,
     most: u16,
 ) -> Result<bool, AllocError>
@@ -359,17 +363,11 @@ fn are_all_handled<'a>(
             marks: looked.written,
             ends: &ends,
         },
-    };
-    are_handled(
-        alloc,
-        image,
-        handlers,
         places,
-        &table.listed,
-        looked,
-        around,
+        listed: &table.listed,
         most,
-    )
+    };
+    are_handled(alloc, image, handlers, looked, around)
 }
 
 /// Whether each handler's table follows it.
@@ -377,64 +375,49 @@ fn are_handled(
     alloc: Global,
     image: &Image,
     handlers: &[Handler],
-    places: &[u16],
-    listed: &Listed,
     looked: Looked<'_>,
     around: Around<'_>,
-    most: u16,
 ) -> Result<bool, AllocError>
     requires code { AreCodeBytes image.now looked.code.now }
     requires written { around.writes.regions.now ≡ image.now.regions }
     requires anew { (at : ℕ) → is_marked around.anew.now at ≡ true → Has around.main.now at nothing_known nothing_beside (Some []) }
     requires writes { AreWriteEnds around.writes.regions.now around.writes.marks.now around.writes.ends.now }
-    ensures { IfOk result (λ handled. handled ≡ true → All (IsHandled image.now around.entry.main.now (is_marked around.entry.writes.marks.now) (is_marked looked.entry.quiet.now) places.now listed.now most) handlers.now) }
+    ensures { IfOk result (λ handled. handled ≡ true → All (IsHandled image.now around.entry.main.now (is_marked around.entry.writes.marks.now) (is_marked looked.entry.quiet.now) around.entry.places.now around.entry.listed.now around.entry.most) handlers.now) }
 {
     for place in 0..handlers.len() {
-        if !is_handled(
-            alloc,
-            image,
-            &handlers[place],
-            places,
-            listed,
-            looked,
-            around,
-            most,
-        )? {
+        if !is_handled(alloc, image, &handlers[place], looked, around)? {
             return Ok(false);
         }
     }
     Ok(true)
 }
 
-/// Whether a handler's table follows it, with no more bytes on the stack than `most`.
+/// Whether a handler's table follows it.
 fn is_handled(
     alloc: Global,
     image: &Image,
     handler: &Handler,
-    places: &[u16],
-    listed: &Listed,
     looked: Looked<'_>,
     around: Around<'_>,
-    most: u16,
 ) -> Result<bool, AllocError>
     requires code { AreCodeBytes image.now looked.code.now }
     requires written { around.writes.regions.now ≡ image.now.regions }
     requires anew { (at : ℕ) → is_marked around.anew.now at ≡ true → Has around.main.now at nothing_known nothing_beside (Some []) }
     requires writes { AreWriteEnds around.writes.regions.now around.writes.marks.now around.writes.ends.now }
-    ensures { IfOk result (λ handled. handled ≡ true → IsHandled image.now around.entry.main.now (is_marked around.entry.writes.marks.now) (is_marked looked.entry.quiet.now) places.now listed.now most handler.now) }
+    ensures { IfOk result (λ handled. handled ≡ true → IsHandled image.now around.entry.main.now (is_marked around.entry.writes.marks.now) (is_marked looked.entry.quiet.now) around.entry.places.now around.entry.listed.now around.entry.most handler.now) }
 {
     let program = ImageCode::new(alloc, image)?;
     let ends = find_data_ends(alloc, &image.regions)?;
-    let numbers = number_places(alloc, places)?;
+    let numbers = number_places(alloc, around.places)?;
     let table = &handler.table;
     let fit = Fit {
         table: &table.states,
         hints: &table.hints,
         ways: &table.ways,
-        places,
+        places: around.places,
         numbers: &numbers,
-        listed,
-        summaries: &table.summaries,
+        listed: around.listed,
+        summaries: &[],
         bytes: table.bytes,
         bounds: StackBounds {
             top: program.top(),
@@ -447,7 +430,7 @@ fn is_handled(
         ends: &ends,
         quiet: looked.quiet,
     };
-    if table.bytes > most || !fit.has_entry(handler.at) {
+    if table.bytes > around.most || !fit.has_entry(handler.at) {
         return Ok(false);
     }
     fit.all_handle(alloc, around)

@@ -11,8 +11,8 @@ loop-place-preserved c k h less there =
     let main = c.args.around.main.now in
     let written = is_marked c.args.around.writes.marks.now in
     let quiet = is_marked c.args.looked.quiet.now in
-    below_more (λ n. slice_get c.args.handlers.now n ≡ Some h → IsHandled image main written quiet c.args.places.now c.args.listed.now c.args.most h) c.loop-place.place (λ n fewer at. c.loop-place.invariant n h fewer at)
-    (λ at. subst (λ t. IsHandled image main written quiet c.args.places.now c.args.listed.now c.args.most t) (c.index-handlers-place.is ∙ get_or_from_slice_get c.args.handlers.now c.loop-place.place h c.index-handlers-place.result at) (c.in_ok-is_handled.ensures c.if-not-branch.false)) k less there
+    below_more (λ n. slice_get c.args.handlers.now n ≡ Some h → IsHandled image main written quiet c.args.around.places.now c.args.around.listed.now c.args.around.most h) c.loop-place.place (λ n fewer at. c.loop-place.invariant n h fewer at)
+    (λ at. subst (λ t. IsHandled image main written quiet c.args.around.places.now c.args.around.listed.now c.args.around.most t) (c.index-handlers-place.is ∙ get_or_from_slice_get c.args.handlers.now c.loop-place.place h c.index-handlers-place.result at) (c.in_ok-is_handled.ensures c.if-not-branch.false)) k less there
 
 pub returns : goal.returns
 returns c is k d inside =

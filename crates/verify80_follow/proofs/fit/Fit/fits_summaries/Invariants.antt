@@ -1,9 +1,8 @@
 use Rattle.std.specs.Prelude.{◌≡◌, ◌<◌, ℕ, Some, slice_get}
-use Rattle.verify80_states.specs.Marks.{is_marked}
 use Rattle.verify80_follow.specs.declared.calls.Summary.{Summary}
 use Rattle.verify80_follow.specs.Follows.{FitsSummary}
-use Rattle.verify80_follow.specs.Follows.{ways_of}
+use Rattle.verify80_follow.specs.Fitting.{fitting_of}
 use Rattle.verify80_follow.proofs.fit.Fit.fits_summaries.Given as goal
 
 abbrev pub invariant-loop-place : goal.invariant-loop-place
-invariant-loop-place l = (k : ℕ) (s : Summary) → k < l.place → slice_get l.self.summaries.now k ≡ Some s → FitsSummary l.self.program.now l.self.interrupted (is_marked l.self.quiet.now) l.self.code.now (ways_of l.self.ways.now l.self.places.now) l.self.listed.now l.self.summaries.now s
+invariant-loop-place l = (k : ℕ) (s : Summary) → k < l.place → slice_get l.self.summaries.now k ≡ Some s → FitsSummary (fitting_of l.self) s

@@ -4,16 +4,16 @@ use Rattle.std.proofs.lemmas.Option.{get_or_from_slice_get}
 use Rattle.verify80_spans.specs.Span.{Within}
 use Rattle.verify80_follow.specs.Follows.{CoversThen}
 use Rattle.verify80_follow.proofs.FitLemmas.{at_place}
-use Rattle.verify80_follow.specs.Follows.{ways_of}
+use Rattle.verify80_follow.specs.Fitting.{fitting_of}
 use Rattle.verify80_follow.proofs.fit.Fit.jumps_to_each.Goals as goal
 
 pub loop-place-preserved : goal.loop-place-preserved
 loop-place-preserved c k to less there within =
     let fit = c.args.self.now in
     let state = c.args.here.state.now in
-    below_more (λ n. slice_get c.targets-targets.result.now n ≡ Some to → Within state.known.hl.words to → CoversThen fit.program.now fit.bounds fit.interrupted fit.code.now (ways_of fit.ways.now fit.places.now) fit.table.now fit.bytes state c.args.here.found false to state.known) c.loop-place.place
+    below_more (λ n. slice_get c.targets-targets.result.now n ≡ Some to → Within state.known.hl.words to → CoversThen fit.bounds (fitting_of fit) state c.args.here.found false to state.known) c.loop-place.place
     (λ n fewer at inside. c.loop-place.invariant n to fewer at inside)
-    (λ at inside. subst (λ n. Within state.known.hl.words n → CoversThen fit.program.now fit.bounds fit.interrupted fit.code.now (ways_of fit.ways.now fit.places.now) fit.table.now fit.bytes state c.args.here.found false n state.known) (get_or_from_slice_get c.targets-targets.result.now c.loop-place.place to 0 at)
+    (λ at inside. subst (λ n. Within state.known.hl.words n → CoversThen fit.bounds (fitting_of fit) state c.args.here.found false n state.known) (get_or_from_slice_get c.targets-targets.result.now c.loop-place.place to 0 at)
     (c.in_ok-covers_target.ensures c.if-not-branch.false) inside) k less there within
 
 pub returns : goal.returns

@@ -1,11 +1,9 @@
 use Rattle.std.specs.Prelude.{◌≡◌, true}
-use Rattle.std.proofs.Common.{ap, refl, subst, sym, ◌∙◌}
+use Rattle.std.proofs.Common.{ap, refl, sym, ◌∙◌}
 use Rattle.decode80.specs.Facts.{flow}
-use Rattle.image80.specs.Regions.{Areas}
-use Rattle.verify80_states.specs.Marks.{is_marked}
-use Rattle.verify80_follow.specs.Follows.{IsShownOrListed, PassesBy, ReturnsBack, is_return}
+use Rattle.verify80_follow.specs.Follows.{PassesBy, ReturnsBack, is_return}
 use Rattle.verify80_follow.proofs.FitLemmas.{ok_maps}
-use Rattle.verify80_follow.specs.Follows.{ways_of}
+use Rattle.verify80_follow.specs.Fitting.{fitting_of}
 use Rattle.verify80_follow.proofs.fit.Fit.returns_back.Goals as goal
 
 pub returns : goal.returns
@@ -13,17 +11,10 @@ returns c =
     let fit = c.args.self.now in
     let state = c.args.state.now in
     let found = c.in-Some.executed.found in
-    ok_maps c.passes_by.result (λ p. p ≡ true → PassesBy fit.program.now fit.bounds fit.interrupted (is_marked fit.quiet.now) fit.code.now (ways_of fit.ways.now fit.places.now) fit.listed.now fit.summaries.now fit.table.now fit.bytes state found (flow found.instr))
-    (λ p. p ≡ true → ReturnsBack fit.program.now fit.bounds fit.interrupted (is_marked fit.quiet.now) fit.code.now (ways_of fit.ways.now fit.places.now) fit.listed.now fit.summaries.now fit.table.now fit.bytes state)
+    ok_maps c.passes_by.result (λ p. p ≡ true → PassesBy fit.bounds (fitting_of fit) state found (flow found.instr))
+    (λ p. p ≡ true → ReturnsBack fit.bounds (fitting_of fit) state)
     (λ p passes is. record {
-      stands = record {
-        found = found;
-        executed = c.in-Some.ensures.executed;
-        serves = c.if-not-may_stand.ensures.serves refl;
-        shown = subst (λ (r : Areas). IsShownOrListed r fit.listed.now found.instr state) c.requires.regions (c.if-not-may_stand.ensures.shown refl);
-        depth = c.if-not-may_stand.ensures.depth refl;
-        knows = c.if-not-may_stand.ensures.knows refl;
-      };
+      stands = record { found = found; executed = c.in-Some.ensures.executed; may = c.if-not-may_stand.ensures refl };
       returns = ap is_return (sym c.flow.ensures) ∙ sym c.is_return.ensures ∙ c.if-not-is_return.false;
       back = c.if-not-is_last.ensures.back refl;
       alone = c.if-not-is_last.ensures.alone refl;

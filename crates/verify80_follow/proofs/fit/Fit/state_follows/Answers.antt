@@ -1,11 +1,9 @@
 use Rattle.std.specs.Prelude.{◌≡◌, true}
-use Rattle.std.proofs.Common.{refl, subst}
+use Rattle.std.proofs.Common.{refl}
 use Rattle.decode80.specs.Facts.{flow}
-use Rattle.verify80_states.specs.Marks.{is_marked}
-use Rattle.image80.specs.Regions.{Areas}
-use Rattle.verify80_follow.specs.Follows.{FollowsBy, IsShownOrListed, StateFollows}
+use Rattle.verify80_follow.specs.Follows.{FollowsBy, StateFollows}
 use Rattle.verify80_follow.proofs.FitLemmas.{ok_maps}
-use Rattle.verify80_follow.specs.Follows.{ways_of}
+use Rattle.verify80_follow.specs.Fitting.{fitting_of}
 use Rattle.verify80_follow.proofs.fit.Fit.state_follows.Goals as goal
 
 pub returns : goal.returns
@@ -13,16 +11,9 @@ returns c =
     let fit = c.args.self.now in
     let state = c.args.state.now in
     let found = c.in-Some.executed.found in
-    ok_maps c.follows_by.result (λ f. f ≡ true → FollowsBy fit.program.now fit.bounds fit.interrupted fit.code.now (ways_of fit.ways.now fit.places.now) fit.table.now fit.bytes state found (flow found.instr))
-    (λ f. f ≡ true → StateFollows fit.program.now fit.bounds fit.interrupted (is_marked fit.quiet.now) fit.code.now (ways_of fit.ways.now fit.places.now) fit.listed.now fit.table.now fit.bytes state)
+    ok_maps c.follows_by.result (λ f. f ≡ true → FollowsBy fit.bounds (fitting_of fit) state found (flow found.instr))
+    (λ f. f ≡ true → StateFollows fit.bounds (fitting_of fit) state)
     (λ f follows is. record {
-      stands = record {
-        found = found;
-        executed = c.in-Some.ensures.executed;
-        serves = c.if-not-may_stand.ensures.serves refl;
-        shown = subst (λ (r : Areas). IsShownOrListed r fit.listed.now found.instr state) c.requires.regions (c.if-not-may_stand.ensures.shown refl);
-        depth = c.if-not-may_stand.ensures.depth refl;
-        knows = c.if-not-may_stand.ensures.knows refl;
-      };
+      stands = record { found = found; executed = c.in-Some.ensures.executed; may = c.if-not-may_stand.ensures refl };
       follows = follows is;
     }) c.follows_by.ensures

@@ -1,12 +1,11 @@
 use Rattle.std.specs.Prelude.{◌≡◌, Some, true}
 use Rattle.std.proofs.Common.{ap, refl, subst, sym, ◌∙◌}
 use Rattle.decode80.specs.{Facts.flow}
-use Rattle.image80.specs.Regions.{Areas}
-use Rattle.verify80_states.specs.{Known.nothing_known, Marks.is_marked}
+use Rattle.verify80_states.specs.Known.{nothing_known}
 use Rattle.verify80_follow.specs.declared.held.Beside.{Beside}
-use Rattle.verify80_follow.specs.Follows.{Has, IsShownOrListed, PassesBy, StepsOver, called}
+use Rattle.verify80_follow.specs.Follows.{Has, PassesBy, StepsOver, called}
 use Rattle.verify80_follow.proofs.FitLemmas.{ok_maps}
-use Rattle.verify80_follow.specs.Follows.{ways_of}
+use Rattle.verify80_follow.specs.Fitting.{fitting_of}
 use Rattle.verify80_follow.proofs.fit.Fit.steps_over.Goals as goal
 
 pub returns : goal.returns
@@ -16,17 +15,10 @@ returns c =
     let found = c.in-Some.executed.found in
     let stack = c.in-Some-bytes.stack.now in
     let summary = c.in-Some-summary.summary.now in
-    ok_maps c.passes_by.result (λ p. p ≡ true → PassesBy fit.program.now fit.bounds fit.interrupted (is_marked fit.quiet.now) fit.code.now (ways_of fit.ways.now fit.places.now) fit.listed.now fit.summaries.now fit.table.now fit.bytes state found (flow found.instr))
-    (λ p. p ≡ true → StepsOver fit.program.now fit.bounds fit.interrupted (is_marked fit.quiet.now) fit.code.now (ways_of fit.ways.now fit.places.now) fit.listed.now fit.summaries.now fit.table.now fit.bytes state)
+    ok_maps c.passes_by.result (λ p. p ≡ true → PassesBy fit.bounds (fitting_of fit) state found (flow found.instr))
+    (λ p. p ≡ true → StepsOver fit.bounds (fitting_of fit) state)
     (λ p passes is. record {
-      stands = record {
-        found = found;
-        executed = c.in-Some.ensures.executed;
-        serves = c.if-not-may_stand.ensures.serves refl;
-        shown = subst (λ (r : Areas). IsShownOrListed r fit.listed.now found.instr state) c.requires.regions (c.if-not-may_stand.ensures.shown refl);
-        depth = c.if-not-may_stand.ensures.depth refl;
-        knows = c.if-not-may_stand.ensures.knows refl;
-      };
+      stands = record { found = found; executed = c.in-Some.ensures.executed; may = c.if-not-may_stand.ensures refl };
       summary = summary;
       among = c.in-Some-summary.ensures;
       calls = ap called (sym c.flow.ensures) ∙ c.if-not-calls.ensures refl;
