@@ -1,4 +1,3 @@
-mod FetchLemmas
 mod OnBoardLemmas
 mod DecideLemmas
 mod StatesLemmas

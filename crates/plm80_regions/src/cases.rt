@@ -15,7 +15,7 @@ ghost use Rattle.plm80_regions.specs.Arguments.{AreCasesArguments, cases_path};
 ghost use Rattle.plm80_regions.specs.Cases.{lacks_table, notes_status};
 
 use clap::ArgMatches;
-use image80::{Case, Image, RegionsFault, case_lines};
+use image80::{Case, Image, case_lines};
 use loader80::TEXT_LIMIT;
 use loader80_text::LengthFault;
 use loader80_trace::TraceFault;
@@ -213,7 +213,7 @@ fn add_cases<C: Console>(console: &mut C, path: &str, image: &Image) -> Result<u
             }
             given
         }
-        Err(fault) => Err(report_regions_fault(console, path, fault)),
+        Err(fault) => Err(report_length_fault(console, path, fault)),
     }
 }
 
@@ -230,13 +230,13 @@ fn added_cases<'a>(
     alloc: Global,
     path: &'a str,
     image: &Image,
-) -> Result<AddedCases<'a>, AddingFault>
+) -> Result<AddedCases<'a>, LengthFault>
     ensures { IfOk result (λ added. PrintsCases (Some path.now) image.now added.answer) }
 {
     let kept = kept_cases(alloc, image, &[])?;
     let text = regions_with_cases(alloc, &image.regions, &kept.cases)?;
     if text.len() > TEXT_LIMIT {
-        return Err(AddingFault::TooLong);
+        return Err(LengthFault::TooLong);
     }
     let status = notes_status(&kept.notes);
     Ok(AddedCases {
@@ -245,44 +245,13 @@ fn added_cases<'a>(
     })
 }
 
-/// Why cases can't be added to regions.
-#[derive(Clone, Copy)]
-enum AddingFault {
-    /// The text with the cases has more bytes than a text of regions may have.
-    TooLong,
-    /// The text with the cases is no text of regions, or memory ran out.
-    Regions(RegionsFault),
-}
-
-impl From<RegionsFault> for AddingFault {
-    ghost use Rattle.plm80_regions.specs.declared.cases.AddingFault.TheVariants.{Regions};
-
-    ghost from_gives = { λ given fault. fault ≡ Regions given };
-
-    fn from(fault: RegionsFault) -> AddingFault
-        ensures { result ≡ Regions fault }
-    {
-        AddingFault::Regions(fault)
-    }
-}
-
-impl From<LengthFault> for AddingFault {
-    fn from(fault: LengthFault) -> AddingFault {
-        match fault {
-            LengthFault::TooLong => AddingFault::TooLong,
-            LengthFault::Memory => AddingFault::Regions(RegionsFault::Memory),
-        }
-    }
-}
-
-/// Reports why cases can't be added to the regions that were to go to the file `path`. Out of memory is reported without the path.
-fn report_regions_fault<C: Console>(console: &mut C, path: &str, fault: AddingFault) -> Reported
+/// Reports why cases aren't added to the regions that were to go to the file `path`. Out of memory is reported without the path.
+fn report_length_fault<C: Console>(console: &mut C, path: &str, fault: LengthFault) -> Reported
     ensures { C.journal console.new ≡ and_reported (C.journal console.old) }
 {
     match fault {
-        AddingFault::TooLong => console.report_file(path, Lack::TooLong),
-        AddingFault::Regions(RegionsFault::Memory) => console.report_memory(),
-        AddingFault::Regions(fault) => console.report_unproved(path, fault),
+        LengthFault::TooLong => console.report_file(path, Lack::TooLong),
+        LengthFault::Memory => console.report_memory(),
     }
 }
 

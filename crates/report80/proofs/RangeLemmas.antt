@@ -1,5 +1,5 @@
 -- Texts of numbers, one after another.
-use Rattle.std.proofs.Common.{◌≡◌, ℕ, zero, suc, ◌+◌, List, [], ◌∷◌, ◌++◌, ap, sym, ◌∙◌, arith, append-nil, append_assoc, refl, take}
+use Rattle.std.proofs.Common.{◌≡◌, ℕ, zero, suc, ◌+◌, List, [], ◌∷◌, ◌++◌, ap, ◌∙◌, arith, append-nil, append_assoc, refl}
 use Rattle.std.specs.Prelude.{Result, Ok, Err, OnOk}
 use Rattle.std.specs.List.{flat_map, range_with_len}
 use Rattle.std.proofs.lemmas.List.Concat.{flat_map-append}
@@ -26,21 +26,6 @@ no_names publics = refl
 pub more_names : (publics : List Public) (n : ℕ) → names_below publics (n + 1) ≡ names_below publics n ++ name_line publics n
 unfolding names_below
 more_names publics n = flat_more (name_line publics) n
-
--- three texts behind another one
-pub grown_by_three : (old one two three first second all : List ℕ) → first ≡ old ++ one → second ≡ first ++ two → all ≡ second ++ three
-    → all ≡ old ++ (one ++ (two ++ three))
-grown_by_three old one two three first second all e e₁ e₂ =
-    e₂ ∙ ap (λ (l : List ℕ). l ++ three) (e₁ ∙ ap (λ (l : List ℕ). l ++ two) e)
-    ∙ append_assoc (old ++ one) two three ∙ append_assoc old one (two ++ three)
-
--- the text of one more item
-pub one_more : {A : Type 0} (f : A → List ℕ) (old some all : List ℕ) (xs : List A) (i : ℕ) (x : A) → take (i + 1) xs ≡ take i xs ++ x ∷ []
-    → some ≡ old ++ flat_map f (take i xs) → all ≡ some ++ f x → all ≡ old ++ flat_map f (take (i + 1) xs)
-one_more f old some all xs i x more before grown =
-    grown ∙ ap (λ (l : List ℕ). l ++ f x) before ∙ append_assoc old (flat_map f (take i xs)) (f x)
-    ∙ ap (λ (l : List ℕ). old ++ (flat_map f (take i xs) ++ l)) (sym (append-nil (f x)))
-    ∙ ap (λ (l : List ℕ). old ++ l) (sym (flat_map-append f (take i xs) (x ∷ [])) ∙ ap (flat_map f) (sym more))
 
 -- what a text that is appended is, by another name
 pub rewritten : {T E : Type 0} (r : Result T E) (all a b : List ℕ) → a ≡ b → OnOk r (all ≡ a) → OnOk r (all ≡ b)

@@ -11,7 +11,8 @@ use Rattle.verify80_calls.specs.declared.graph.call_graph.Node.{Node}
 use Rattle.verify80_calls.specs.ListText.{list_text}
 use Rattle.report80.specs.DrawingText.{drawing_text}
 use Rattle.report80.specs.MemoryText.{map_text, sums_text}
-use Rattle.report80.specs.StackText.{chain_text, chart_text}
+use Rattle.report80.specs.StackText.{chart_text}
+use Rattle.verify80_calls.specs.ListText.{chain_text}
 
 -- a heading, and a text below it
 abbrev pub part_text : (heading text : List ℕ) → List ℕ

@@ -1,18 +1,16 @@
 //! The calls of a program as a drawing: a box for each procedure, and a line for each that calls another.
 
 ghost use Rattle.std.specs.Prelude.{◌≡◌, ◌++◌, OnOk};
-ghost use Rattle.std.specs.List.{flat_map};
 ghost use Rattle.page80.specs.Pictures.{IsPoint, IsWithin};
 ghost use Rattle.report80.specs.DrawingText.{IsBoard, box_text, boxes_text, drawing_text};
 
-use crate::chain::chain_calls;
 use crate::layout::{Edge, Place, edges_of, places_of};
 use image80::Image;
 use image80_text::{PublicTable, append_name};
 use page80::{Area, Frame, Page, Paint, Point};
 use std::alloc::{AllocError, Global};
 use text80::word_digits;
-use verify80_calls::{Call, Node, Procedure};
+use verify80_calls::{Link, Node, Procedure, longest_chain};
 
 /// The most procedures that are drawn.
 const MOST_BOXES: usize = 60;
@@ -32,7 +30,7 @@ pub(crate) fn append_drawing(
     }
     let edges = edges_of(alloc, nodes)?;
     let places = places_of(alloc, nodes.len(), &edges)?;
-    let chain = chain_calls(alloc, nodes)?;
+    let chain = longest_chain(alloc, nodes)?;
     let frame = frame_of(&places);
     page.begin_picture(alloc, frame)?;
     append_lines(alloc, page, frame, nodes, &chain, &places, &edges)?;
@@ -75,7 +73,7 @@ fn append_lines(
     page: &mut Page,
     frame: Frame,
     nodes: &[Node],
-    chain: &[Call],
+    chain: &[Link],
     places: &[Place],
     edges: &[Edge],
 ) -> Result<(), AllocError>
@@ -118,11 +116,12 @@ fn left_of(frame: Frame, place: Place) -> Point
 }
 
 /// How a line is painted: as a part of the longest chain if a call of it leads along the line.
-fn paint_of(nodes: &[Node], chain: &[Call], edge: Edge) -> Paint {
+fn paint_of(nodes: &[Node], chain: &[Link], edge: Edge) -> Paint {
     let (Some(from), Some(to)) = (nodes.get(edge.from), nodes.get(edge.to)) else {
         return Paint::Other;
     };
-    let is_chain = chain.iter().any(|call| call.target == to.address && from.calls.contains(call));
+    let is_chain = chain.iter().any(|link| link.call.target == to.address
+        && from.calls.contains(&link.call));
     if is_chain { Paint::Chain } else { Paint::Other }
 }
 

@@ -10,7 +10,6 @@
 //! | [`Findings`], [`RefusedFindings`] | what is known of a program, or of such an image |
 #![tactic(auto)]
 
-mod chain;
 mod drawing;
 mod layout;
 mod memory;

@@ -1,5 +1,5 @@
 -- What is printed of the calls of a program, line by line. (The form of the lines is this project's own.)
-use Rattle.std.specs.Prelude.{ℕ, List, [], ◌∷◌, ◌++◌, codes}
+use Rattle.std.specs.Prelude.{ℕ, List, [], ◌∷◌, ◌++◌, codes, map}
 use Rattle.std.specs.Fmt.{decimal, signed_decimal}
 use Rattle.std.specs.List.{flat_map}
 use Rattle.text80.specs.Digits.{word_text}
@@ -10,6 +10,8 @@ use Rattle.frames80.specs.declared.procedure.Procedure.{Procedure}
 use Rattle.frames80.specs.declared.procedure.Procedure.TheVariants.{Main, Entry}
 use Rattle.verify80_calls.specs.declared.calls.Call.{Call}
 use Rattle.verify80_calls.specs.declared.graph.call_graph.Node.{Node}
+use Rattle.verify80_calls.specs.declared.graph.chain.Link.{Link}
+use Rattle.verify80_calls.specs.Chain.{chain_of}
 use Rattle.verify80_calls.specs.Nodes.{needs}
 
 -- a text, and an address behind it
@@ -60,3 +62,8 @@ node_lines image publics nodes node = node_line image publics node ++ flat_map (
 
 abbrev pub list_text : Located → List Public → List Node → List ℕ
 list_text image publics nodes = flat_map (node_lines image publics nodes) nodes
+
+-- ---- the calls that add up to the main program's bound
+
+abbrev pub chain_text : Located → List Public → List Node → List ℕ
+chain_text image publics nodes = flat_map (call_line image publics nodes) (map (λ (link : Link). link.call) (chain_of nodes))

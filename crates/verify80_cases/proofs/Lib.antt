@@ -7,3 +7,4 @@ mod SuggestedLemmas
 mod NoteLemmas
 mod TrailLemmas
 mod LeavesLemmas
+mod AddedLemmas

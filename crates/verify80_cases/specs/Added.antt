@@ -1,22 +1,18 @@
--- Regions with cases added: their text of version 2, the lines of the cases behind it, and of that the text of version 2. (This
--- project's own.)
-use Rattle.std.specs.Prelude.{◌≡◌, ℕ, ◌⊎◌, List, [], ◌++◌}
-use Rattle.image80.specs.Case.{DeclaredCase}
+-- Regions to which cases are added: their own cases and the new ones, by address. (This project's own.)
+use Rattle.std.specs.Prelude.{◌≡◌, ℕ, List, ◌∷◌, ◌++◌, IsPermutation, codes, map}
+use Rattle.image80.specs.Case.{AreByAddress, DeclaredCase}
+use Rattle.image80.specs.Lines.{text_of}
 use Rattle.image80.specs.Regions.{Areas}
-use Rattle.image80.specs.RegionsText.{Migrates, Refuses, cases_text, regions_text}
-use Rattle.image80.specs.declared.fault.RegionsFault.{RegionsFault}
-use Rattle.image80.specs.declared.fault.RegionsFault.TheVariants.{Memory}
+use Rattle.image80.specs.RegionsText.{Spells, entries_of, entry_text}
 
+-- the text of version 2 of regions
+abbrev pub second_text : Areas → List ℕ
+second_text areas = text_of (codes "REGIONS 2" ∷ map entry_text (entries_of areas))
+
+-- the text of version 2 of the regions with all cases, which is read as them
 pub record AddsCases (regions : Areas) (cases : List DeclaredCase) (text : List ℕ) : Type 0 where
-  pub before : List ℕ
-  pub migrated : Migrates (regions_text regions) [] before
-  pub added : Migrates (before ++ cases_text cases) [] text
-
--- the text with the lines is refused so
-pub record RefusesLines (regions : Areas) (cases : List DeclaredCase) (fault : RegionsFault) : Type 0 where
-  pub before : List ℕ
-  pub migrated : Migrates (regions_text regions) [] before
-  pub refused : Refuses (before ++ cases_text cases) fault
-
-abbrev pub RefusesCases : Areas → List DeclaredCase → RegionsFault → Type 0
-RefusesCases regions cases fault = (fault ≡ Memory) ⊎ RefusesLines regions cases fault
+  pub joined : List DeclaredCase
+  pub same : IsPermutation (regions.cases ++ cases) joined
+  pub by_address : AreByAddress joined
+  pub text_is : text ≡ second_text (record regions { cases = joined })
+  pub spelled : Spells text (record regions { cases = joined })

@@ -2,3 +2,4 @@ pub mod ShownLemmas
 pub mod SoughtLemmas
 pub mod ChainLemmas
 pub mod OrderLemmas
+pub mod JudgedLemmas

@@ -2,16 +2,15 @@
 
 ghost use Rattle.std.specs.Prelude.{◌≡◌, All, IfOk, IfSome, OnOk};
 ghost use Rattle.verify80.specs.Looking.{code_of};
-ghost use Rattle.verify80_flow.specs.Refusal.{look_refusal as refusal_by_look};
+ghost use Rattle.verify80_flow.specs.Refusal.{look_refusal as refusal_by_look, refusal_of};
 ghost use Rattle.verify80_explain.specs.Conditions.{AreShownIf};
 ghost use Rattle.verify80_explain.specs.Order.{AreShownInOrder};
 ghost use Rattle.frames80.specs.Code.{Code};
 ghost use Rattle.verify80_walks.specs.Reached.{AreReached, AreWalked};
-ghost use Rattle.verify80_explain.specs.Reaching.{IsRefusedIfWalked, RefusesFor};
+ghost use Rattle.verify80_explain.specs.Reaching.{refusal_with};
 ghost use Rattle.verify80_explain.specs.Shows.{IsShown, Shows};
 
 use crate::conditions::Conditions;
-use crate::evidence::Fault;
 use crate::explanation::Explanation;
 use crate::further::show_further;
 use crate::place::Place;
@@ -269,34 +268,33 @@ pub(crate) fn refusal_at<C: Code>(
     program: &C,
     point: &Point,
 ) -> Result<Option<Refusal>, Unexplained>
-    ensures { IfOk result (λ refusal. IfSome refusal (IsRefusedIfWalked (C.code program.now) point.now)) }
+    ensures { IfOk result (λ refusal. refusal ≡ refusal_with (C.code program.now) point.now.procedure point.now.at point.now.frame) }
 {
     let at = point.at;
     Ok(match look_at(alloc, program, point)? {
-        Looked::Wrong(fault) => Some(refusal_of(Fault::Look(fault), at)),
-        Looked::Stuck(fault) => Some(refusal_of(Fault::Frame(fault), at)),
+        Looked::Wrong(fault) => Some(look_refusal(fault, at)),
+        Looked::Stuck(fault) => Some(frame_refusal(fault, at)),
         Looked::Moved(_moves, _next) => None,
     })
 }
 
-/// The refusal of this fault at an address.
-pub(crate) fn refusal_of(fault: Fault, at: u16) -> Refusal
-    ensures { RefusesFor fault at result }
+/// The refusal of an instruction at an address that has this fault with its frame.
+fn frame_refusal(fault: FrameFault, at: u16) -> Refusal
+    ensures { result ≡ refusal_of fault at }
 {
     match fault {
-        Fault::Look(fault) => look_refusal(fault, at),
-        Fault::Frame(FrameFault::Sphl) => Refusal::Sphl(at),
-        Fault::Frame(FrameFault::StackByByte) => Refusal::StackByByte(at),
-        Fault::Frame(FrameFault::SetsStack) => Refusal::SetsStack(at),
-        Fault::Frame(FrameFault::PopsBelow) => Refusal::PopsBelow(at),
-        Fault::Frame(FrameFault::ReturnNotOwn) => Refusal::ReturnNotOwn(at),
-        Fault::Frame(FrameFault::ReturnFromMain) => Refusal::ReturnFromMain(at),
-        Fault::Frame(FrameFault::Memory) => Refusal::Memory,
+        FrameFault::Sphl => Refusal::Sphl(at),
+        FrameFault::StackByByte => Refusal::StackByByte(at),
+        FrameFault::SetsStack => Refusal::SetsStack(at),
+        FrameFault::PopsBelow => Refusal::PopsBelow(at),
+        FrameFault::ReturnNotOwn => Refusal::ReturnNotOwn(at),
+        FrameFault::ReturnFromMain => Refusal::ReturnFromMain(at),
+        FrameFault::Memory => Refusal::Memory,
     }
 }
 
 /// The refusal of an address at which no instruction may be executed, for this reason.
-pub(crate) fn look_refusal(fault: LookFault, at: u16) -> Refusal
+fn look_refusal(fault: LookFault, at: u16) -> Refusal
     ensures { result ≡ refusal_by_look fault at }
 {
     match fault {

@@ -1,6 +1,6 @@
 //! Explanations: why a program is refused, shown by ways through its procedures that lead to the fault.
 //!
-//! Proved: what is shown is there.
+//! Proved: what is shown is there, and a reached point has a refusal exactly if its instruction may not be executed.
 //!
 //! Nothing rests on the search of `verify80_walks`: before points show something it is checked that each comes from earlier ones, that the
 //! calls and the ways lead to them, and that the fault is there. That an explanation is found is tested, not proved.

@@ -9,14 +9,13 @@ ghost use Rattle.verify80_explain.specs.declared.conditions.Conditions.{Conditio
 ghost use Rattle.verify80_explain.specs.Conditions.{code_from};
 ghost use Rattle.verify80_explain.specs.Order.{ArePointsInOrder, number_of};
 ghost use Rattle.verify80_walks.specs.Reached.{AreWalked};
-ghost use Rattle.verify80_explain.specs.Reaching.{AreReachedOn, AreRefusalsOf, IsReachedAt, IsReachedOn, IsRefusedAt};
+ghost use Rattle.verify80_explain.specs.Reaching.{AreReachedOn, AreRefusalsOf, IsReachedAt, IsReachedOn};
 ghost use Rattle.verify80_walks.specs.Ways.{IsWalked};
-ghost use Rattle.verify80_flow.specs.Refusal.{refusal_address};
 
 use crate::chain::{Standing, depth_at};
 use crate::checking::{keep_begins, keep_conditions};
 use crate::conditions::{ConditionalCode, Conditions};
-use crate::explaining_all::{is_reached_within, look_refusal, refusal_at};
+use crate::explaining_all::{is_reached_within, refusal_at};
 use crate::further::Conditioning;
 use crate::place::Place;
 use frames80::{Code, slot};
@@ -32,7 +31,7 @@ use verify80_walks::{Point, Search, Unexplained, are_reached};
 pub struct ReachedPoint {
     /// The procedure, the address and the depth.
     pub standing: Standing,
-    /// Why the instruction may not be executed there; `None` if it may.
+    /// Why the instruction may not be executed there, also if a condition passes over it; `None` if it may.
     pub refusal: Option<Refusal>,
 }
 
@@ -254,7 +253,8 @@ fn stand_at<C: Code>(
     Ok(found)
 }
 
-/// Where a walk stands that reaches a point, and whether it may go on there.
+/// Where a walk stands that reaches a point, and why the instruction there may not be executed with the walk's frame: as in the program
+/// without conditions, so that an instruction that a condition passes over is refused, too.
 fn reached_point<C: Code>(
     alloc: Global,
     plain: &ImageCode,
@@ -269,37 +269,6 @@ fn reached_point<C: Code>(
         at: point.at,
         depth: depth_at(program, point)?,
     };
-    let refusal = refusal_there(alloc, plain, program, point)?;
+    let refusal = refusal_at(alloc, plain, point)?;
     Ok(ReachedPoint { standing, refusal })
-}
-
-/// Why the instruction at a point may not be executed: whatever the frame is, which a condition may pass over, or with this frame.
-fn refusal_there<C: Code>(
-    alloc: Global,
-    plain: &ImageCode,
-    program: &C,
-    point: &Point,
-) -> Result<Option<Refusal>, Unexplained>
-    requires { IsWalked (C.code program.now) point.now }
-    ensures { IfOk result (λ refusal. IfSome refusal (IsRefusedAt (code_of plain.now) (C.code program.now) point.now.at)) }
-{
-    match plain.look(point.at) {
-        Err(fault) => Ok(Some(look_refusal(fault, point.at))),
-        Ok(_) => {
-            let refusal = refusal_at(alloc, program, point)?;
-            Ok(refusal_of_address(refusal, point.at))
-        }
-    }
-}
-
-/// A refusal, if it is of this address.
-fn refusal_of_address(refusal: Option<Refusal>, at: u16) -> Option<Refusal>
-    ensures { IfSome result (λ it. (refusal ≡ Some it) × (refusal_address it ≡ Some at)) }
-{
-    let found = refusal?;
-    if found.address() == Some(at) {
-        Some(found)
-    } else {
-        None
-    }
 }

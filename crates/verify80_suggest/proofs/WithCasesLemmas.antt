@@ -1,80 +1,74 @@
 -- Regions without cases, and the same with cases.
-use Rattle.std.proofs.Common.{◌≡◌, ℕ, List, [], ◌∷◌, ◌++◌, All, map, refl, sym, ◌∙◌, ap, subst}
-use Rattle.std.proofs.lemmas.List.{map-append}
-use Rattle.std.proofs.lemmas.List.Concat.{flat_map-append}
-use Rattle.std.specs.Prelude.{codes}
-use Rattle.image80.specs.declared.range.Range.{Range}
-use Rattle.image80.specs.Case.{AreByAddress, DeclaredCase, IsCase}
-use Rattle.image80.specs.Lines.{text_of}
-use Rattle.image80.specs.Regions.{Areas, AreRegions}
-use Rattle.image80.specs.RegionsText.{Spells, case_text, cases_text, entries_of, entry_text}
+use Rattle.std.proofs.Common.{◌≡◌, ◌<◌, ◌==◌, ◌⊎◌, inl, inr, ℕ, zero, suc, List, [], ◌∷◌, ◌++◌, None, All, length, get_or, refl, sym, ◌∙◌, ap, subst, arith}
+use Rattle.std.specs.Prelude.{Contains, IsPermutation, find}
+use Rattle.std.specs.Option.{option_map}
+use Rattle.std.proofs.lemmas.List.Sorted.{Contains-permutation, IsPermutation-sym}
+use Rattle.image80.specs.Case.{AreByAddress, DeclaredCase}
+use Rattle.image80.specs.Regions.{Areas, targets_at}
+use Rattle.image80.specs.RegionsText.{Refuses, Spells}
+use Rattle.image80.specs.declared.fault.RegionsFault.{RegionsFault}
+use Rattle.image80.specs.declared.fault.RegionsFault.TheVariants.{Memory}
+use Rattle.verify80_cases.specs.Added.{AddsCases}
 
--- a list without its first element, and that element alone
-but_first : {E : Type 0} → List E → List E
-but_first [] = []
-but_first (x ∷ xs) = xs
+by_address-tail : (case : DeclaredCase) (cases : List DeclaredCase) → AreByAddress (case ∷ cases) → AreByAddress cases
+by_address-tail case cases rising i j d order inside = rising (suc i) (suc j) d (omega (arith, order)) (omega (arith, inside))
 
-only_first : {E : Type 0} → List E → List E
-only_first [] = []
-only_first (x ∷ xs) = x ∷ []
+-- a case behind the first is above it
+above_first : (case : DeclaredCase) (cases : List DeclaredCase) (other : DeclaredCase) → AreByAddress (case ∷ cases) → Contains cases other → case.at < other.at
+above_first case cases other rising has = subst (λ (k : DeclaredCase). case.at < k.at) has.2 (rising 0 (suc has.0) other (omega arith) (omega (arith, has.1)))
 
--- the text of version 2
-abbrev pub text2 : Areas → List ℕ
-text2 areas = text_of (codes "REGIONS 2" ∷ map entry_text (entries_of areas))
+-- a case is the first or one behind it
+first_or_rest : (case : DeclaredCase) (cases : List DeclaredCase) (other : DeclaredCase) → Contains (case ∷ cases) other → (case ≡ other) ⊎ Contains cases other
+first_or_rest case cases other has = at has.0 has.1 has.2
+  where
+    at : (k : ℕ) → k < length (case ∷ cases) → get_or (case ∷ cases) k other ≡ other → (case ≡ other) ⊎ Contains cases other
+    at zero inside is = inl is
+    at (suc k) inside is = inr (k, omega (arith, inside), is)
 
-abbrev areas_of : List Range → Range → List Range → List DeclaredCase → Areas
-areas_of code stack ranges cases = record { code = code; stack = stack; data_ranges = ranges; cases = cases }
+-- cases by address that are the same set are the same
+same_by_address : (xs ys : List DeclaredCase) → AreByAddress xs → AreByAddress ys → ((case : DeclaredCase) → Contains xs case → Contains ys case) →
+    ((case : DeclaredCase) → Contains ys case → Contains xs case) → xs ≡ ys
+same_by_address [] [] xs_rise ys_rise there back = refl
+same_by_address [] (y ∷ ys) xs_rise ys_rise there back = absurd (omega (arith, (back y (0, omega arith, refl)).1))
+same_by_address (x ∷ xs) [] xs_rise ys_rise there back = absurd (omega (arith, (there x (0, omega arith, refl)).1))
+same_by_address (x ∷ xs) (y ∷ ys) xs_rise ys_rise there back =
+    ap (λ k. k ∷ xs) same ∙ ap (λ ks. y ∷ ks)
+    (same_by_address xs ys (by_address-tail x xs xs_rise) (by_address-tail y ys ys_rise)
+    (λ case has. rest y ys case (subst (λ (k : DeclaredCase). k.at < case.at) same (above_first x xs case xs_rise has)) (there case (suc has.0, omega (arith, has.1), has.2)))
+    (λ case has. rest x xs case (subst (λ (k : DeclaredCase). k.at < case.at) (sym same) (above_first y ys case ys_rise has)) (back case (suc has.0, omega (arith, has.1), has.2))))
+  where
+    first : (x ≡ y) ⊎ Contains xs y → (y ≡ x) ⊎ Contains ys x → x ≡ y
+    first (inl is) other = is
+    first (inr behind) (inl is) = sym is
+    first (inr behind) (inr before) = absurd (omega (arith, above_first x xs y xs_rise behind, above_first y ys x ys_rise before))
 
--- the lines of cases
-lines_of_cases : (stack : Range) (cases : List DeclaredCase) → text_of (map entry_text (but_first (entries_of (areas_of [] stack [] cases)))) ≡ cases_text cases
-unfolding but_first
-lines_of_cases stack [] = refl
-lines_of_cases stack (k ∷ ks) = ap (λ rest. ((codes "CASE " ++ case_text k) ++ 10 ∷ []) ++ rest) (lines_of_cases stack ks)
+    same : x ≡ y
+    same = first (first_or_rest x xs y (back y (0, omega arith, refl))) (first_or_rest y ys x (there x (0, omega arith, refl)))
 
--- they stand behind all others
-entries_with : (code : List Range) (stack : Range) (ranges : List Range) (cases : List DeclaredCase) →
-    entries_of (areas_of code stack ranges cases) ≡ entries_of (areas_of code stack ranges []) ++ but_first (entries_of (areas_of [] stack [] cases))
-unfolding but_first only_first
-entries_with [] stack [] cases = refl
-entries_with [] stack (d ∷ ds) cases = ap (λ l. entries_of (areas_of [] stack (d ∷ []) []) ++ but_first l) (entries_with [] stack ds cases)
-entries_with (c ∷ cs) stack ranges cases = ap (λ l. only_first (entries_of (areas_of (c ∷ []) stack [] [])) ++ l) (entries_with cs stack ranges cases)
+    rest : (k : DeclaredCase) (ks : List DeclaredCase) (case : DeclaredCase) → k.at < case.at → Contains (k ∷ ks) case → Contains ks case
+    rest k ks case below has = of_either (first_or_rest k ks case has)
+      where
+        of_either : (k ≡ case) ⊎ Contains ks case → Contains ks case
+        of_either (inl is) = absurd (omega (arith, below, ap (λ (c : DeclaredCase). c.at) is))
+        of_either (inr has') = has'
 
-text_more : {E : Type 0} (line : E → List ℕ) (first : List ℕ) (es fs : List E) → text_of (first ∷ map line (es ++ fs)) ≡ text_of (first ∷ map line es) ++ text_of (map line fs)
-text_more line first es fs =
-    ap (λ l. text_of (first ∷ l)) (map-append line es fs) ∙ flat_map-append (λ l. l ++ 10 ∷ []) (first ∷ map line es) (map line fs)
+-- no targets are declared
+pub none_declared : (areas : Areas) (cases : List DeclaredCase) → areas.cases ≡ [] → All (λ case. targets_at areas case.at ≡ None) cases
+none_declared areas cases none = λ i d inside.
+    ap (λ ks. option_map (λ (k : DeclaredCase). k.targets) (find (λ k. k.at == (get_or cases i d).at) ks)) none
 
-pub text_with : (areas : Areas) (cases : List DeclaredCase) → areas.cases ≡ [] → text2 areas ++ cases_text cases ≡ text2 (record areas { cases = cases })
-text_with areas cases none =
-    ap (λ ks. text2 (record areas { cases = ks }) ++ cases_text cases) none
-    ∙ ap (λ l. text2 (record areas { cases = [] }) ++ l) (sym (lines_of_cases areas.stack cases))
-    ∙ sym (text_more entry_text (codes "REGIONS 2") (entries_of (record areas { cases = [] })) (but_first (entries_of (areas_of [] areas.stack [] cases))))
-    ∙ ap (λ es. text_of (codes "REGIONS 2" ∷ map entry_text es)) (sym (entries_with areas.code areas.stack areas.data_ranges cases))
+module _ (areas : Areas) (cases : List DeclaredCase) (text : List ℕ) (none : areas.cases ≡ []) (rising : AreByAddress cases) (adds : AddsCases areas cases text) where
+  -- the cases that are added are all cases
+  all_cases : adds.joined ≡ cases
+  all_cases =
+      let moved : IsPermutation cases adds.joined = subst (λ ks. IsPermutation (ks ++ cases) adds.joined) none adds.same in
+      sym (same_by_address cases adds.joined rising adds.by_address (λ case. Contains-permutation cases adds.joined case moved)
+      (λ case. Contains-permutation adds.joined cases case (IsPermutation-sym cases adds.joined moved)))
 
-module _ (areas : Areas) (cases : List DeclaredCase) where
-  abbrev pub with_cases : Areas
-  with_cases = record areas { cases = cases }
+  pub read_with : (made : Areas) → ((text : List ℕ) (one other : Areas) → Spells text one → Spells text other → one ≡ other) → Spells text made →
+      made ≡ record areas { cases = cases }
+  read_with made one_reading spells = one_reading text made (record areas { cases = adds.joined }) spells adds.spelled ∙ ap (λ ks. record areas { cases = ks }) all_cases
 
-  pub regions_with : AreRegions areas → AreByAddress cases → All IsCase cases → AreRegions with_cases
-  regions_with rules by_address each = record {
-    code_by_address = rules.code_by_address;
-    data_by_address = rules.data_by_address;
-    code_filled = rules.code_filled;
-    data_filled = rules.data_filled;
-    in_memory = rules.in_memory;
-    disjoint = rules.disjoint;
-    cases_by_address = by_address;
-    each_case = each;
-  }
-
-  -- what is read of the text with the lines, where two texts are written of regions
-  pub read_with : (written other : Areas → List ℕ) → ((a : Areas) → AreRegions a → Spells (written a) a) → ((a : Areas) → AreRegions a → Spells (other a) a) →
-      ((t : List ℕ) (a b : Areas) → Spells t a → Spells t b → a ≡ b) →
-      AreRegions areas → AreByAddress cases → All IsCase cases → other areas ++ cases_text cases ≡ other with_cases →
-      (before text : List ℕ) (old new made : Areas) → Spells (written areas) old → before ≡ other old → Spells (before ++ cases_text cases) new → text ≡ other new → Spells text made →
-      made ≡ with_cases
-  read_with written other is_written is_other one rules by_address each lines before text old new made spells_old is_before spells_new is_text spells_made =
-      let own = regions_with rules by_address each in
-      let same : old ≡ areas = one (written areas) old areas spells_old (is_written areas rules) in
-      let whole : before ++ cases_text cases ≡ other with_cases = ap (λ l. l ++ cases_text cases) (is_before ∙ ap other same) ∙ lines in
-      let same' : new ≡ with_cases = one (other with_cases) new with_cases (subst (λ t. Spells t new) whole spells_new) (is_other with_cases own) in
-      one (other with_cases) made with_cases (subst (λ t. Spells t made) (is_text ∙ ap other same') spells_made) (is_other with_cases own)
+  pub only_memory : (fault : RegionsFault) → ((text : List ℕ) (areas : Areas) (fault : RegionsFault) → Spells text areas → Refuses text fault → fault ≡ Memory) →
+      Refuses text fault → fault ≡ Memory
+  only_memory fault not_refused refused = not_refused text (record areas { cases = adds.joined }) fault adds.spelled refused

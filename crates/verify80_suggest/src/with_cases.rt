@@ -4,7 +4,7 @@ ghost use Rattle.std.specs.Prelude.{◌≡◌, [], All, IfOk};
 ghost use Rattle.image80.specs.Case.{AreByAddress, IsCase};
 
 use image80::laws::text_of_regions_is_read_as_itself;
-use image80::{Case, Regions, read_regions};
+use image80::{Case, Regions, RegionsFault, read_regions};
 use std::alloc::{AllocError, Global};
 use verify80_cases::regions_with_cases;
 
@@ -25,12 +25,13 @@ pub(crate) fn with_cases(
     ensures { IfOk result (λ made. made ≡ record regions.now { cases = cases.now }) }
 {
     text_of_regions_is_read_as_itself();
-    let _ranges = regions.code();
-    let Ok(text) = regions_with_cases(alloc, regions, cases) else {
-        return Err(AllocError);
-    };
+    let text = regions_with_cases(alloc, regions, cases)?;
     match read_regions(alloc, &text) {
         Ok(made) => Ok(made),
-        Err(_) => Err(AllocError),
+        Err(fault) => match fault {
+            RegionsFault::Memory => Err(AllocError),
+            // The text is one of regions.
+            _ => unreachable!(),
+        },
     }
 }

@@ -13,11 +13,11 @@ use std::marker::Model;
 
 /// A call of a chain.
 #[derive(Clone, Copy, Debug, PartialEq, Eq)]
-pub(crate) struct Link {
+pub struct Link {
     /// The procedure that makes the call.
-    pub(crate) caller: Procedure,
+    pub caller: Procedure,
     /// The call.
-    pub(crate) call: Call,
+    pub call: Call,
 }
 
 /// How many addresses there are.
@@ -75,9 +75,21 @@ fn set_marks(marks: &mut [bool], chain: &[Link])
     }
 }
 
+/// The calls that add up to the main program's bound: from the main program on, the first call of each procedure whose depth and needs add
+/// up to the procedure's bound.
+///
+/// # Errors
+/// `AllocError` only if memory runs out.
+pub fn longest_chain(alloc: Global, nodes: &[Node]) -> Result<Vec<Link>, AllocError>
+    ensures { IfOk result (λ chain. chain.items ≡ chain_of nodes.now) }
+{
+    let indexed = IndexedNodes::of(alloc, nodes)?;
+    chain_of(alloc, &indexed)
+}
+
 /// The chain of calls that adds up to the main program's bound, from the main program on.
 /// `AllocError` if memory runs out.
-fn chain_of(alloc: Global, nodes: &IndexedNodes<'_>) -> Result<Vec<Link>, AllocError>
+pub(crate) fn chain_of(alloc: Global, nodes: &IndexedNodes<'_>) -> Result<Vec<Link>, AllocError>
     ensures { IfOk result (λ chain. chain.items ≡ chain_of nodes.now) }
 {
     let mut chain = Vec::new(alloc);

@@ -1,11 +1,12 @@
 //! The calls of a program, line by line.
 
-ghost use Rattle.std.specs.Prelude.{◌≡◌, ◌++◌, IfOk, OnOk};
+ghost use Rattle.std.specs.Prelude.{◌≡◌, ◌++◌, IfOk, OnOk, map};
 ghost use Rattle.std.specs.List.{flat_map};
-ghost use Rattle.verify80_calls.specs.ListText.{call_line, depth_text, list_text, needs_text, node_line, node_lines};
+ghost use Rattle.verify80_calls.specs.ListText.{call_line, chain_text, depth_text, list_text, needs_text, node_line, node_lines};
 
 use crate::Call;
 use crate::graph::call_graph::{CallGraph, Node};
+use crate::graph::chain::{Link, chain_of};
 use crate::graph::needs::IndexedNodes;
 use crate::graph::words::{append_address, append_bound, append_end, node_word};
 use image80::Image;
@@ -50,8 +51,38 @@ fn append_nodes(
     Ok(())
 }
 
+/// The lines of the calls that add up to the main program's bound, as [`list_text`] has them.
+///
+/// # Errors
+/// `AllocError` only if memory runs out.
+pub fn chain_text(
+    alloc: Global,
+    image: &Image,
+    publics: &PublicTable,
+    nodes: &[Node],
+) -> Result<Vec<u8>, AllocError>
+    ensures { IfOk result (λ text. text.items ≡ chain_text image.now publics.now nodes.now) }
+{
+    let indexed = IndexedNodes::of(alloc, nodes)?;
+    let chain = chain_of(alloc, &indexed)?;
+    let calls = calls_of(alloc, &chain)?;
+    let mut text = Vec::new(alloc);
+    append_calls(alloc, &mut text, image, publics, &indexed, &calls)?;
+    Ok(text)
+}
+
+/// The calls of a chain. `AllocError` if memory runs out.
+fn calls_of(alloc: Global, chain: &[Link]) -> Result<Vec<Call>, AllocError>
+    ensures { IfOk result (λ calls. calls.items ≡ map (λ link. link.call) chain.now) }
+{
+    chain.iter().map(|link| link.call).collect(alloc)
+}
+
 /// Appends the line of a procedure: its address, bound and name.
-fn append_node_line(
+///
+/// # Errors
+/// `AllocError` only if memory runs out.
+pub fn append_node_line(
     alloc: Global,
     text: &mut Vec<u8>,
     image: &Image,

@@ -7,6 +7,7 @@ use Rattle.verify80_explain.specs.declared.conditions.Conditions.{Conditions}
 use Rattle.verify80_explain.specs.declared.reaching.ReachedPoint.{ReachedPoint}
 use Rattle.verify80_explain.specs.Conditions.{code_from}
 use Rattle.verify80_explain.specs.Reaching.{IsReachedAt, IsReachedOn}
+use Rattle.verify80_explain.proofs.JudgedLemmas.{is_refused}
 use Rattle.verify80_explain.proofs.reaching.reach_from_each.Goals as goal
 
 of_some : {A : Type 0} (P : A → Type 0) (o : Option A) (x : A) → o ≡ Some x → IfSome o P → P x
@@ -17,7 +18,12 @@ reached_on : (code : Code) (conditions : Conditions) (begins : List (Option ℕ)
     → All (IsReachedAt code (code_from (get_or begins n d) conditions code)) found → All (IsReachedOn code begins conditions) found
 reached_on code conditions begins n d found inside there =
     All-weaker (IsReachedAt code (code_from (get_or begins n d) conditions code)) (IsReachedOn code begins conditions)
-    (λ point is. record { begin = get_or begins n d; among = Contains-get_or begins n d inside; there = is }) found there
+    (λ point is. record {
+      begin = get_or begins n d;
+      among = Contains-get_or begins n d inside;
+      there = is;
+      refused = is_refused code (get_or begins n d) conditions point is;
+    }) found there
 
 pub loop-number-preserved : goal.loop-number-preserved
 loop-number-preserved c = λ all.

@@ -1,16 +1,20 @@
 use Rattle.std.proofs.Common.{subst}
-use Rattle.image80.specs.RegionsText.{Spells, regions_text}
-use Rattle.verify80_suggest.proofs.WithCasesLemmas.{read_with, text2, text_with}
+use Rattle.image80.specs.RegionsText.{Refuses, Spells}
+use Rattle.verify80_suggest.proofs.WithCasesLemmas.{none_declared, only_memory, read_with}
 use Rattle.verify80_suggest.proofs.with_cases.with_cases.Goals as goal
 
-pub returns-in-Ok-read_regions : goal.returns-in-Ok-read_regions
-returns-in-Ok-read_regions c =
-    let law = c.text_of_regions_is_read_as_itself.ensures in
-    let areas = c.args.regions.now in
-    let cases = c.args.cases.now in
-    let made = c.in-Ok-read_regions.made in
-    let adds = c.in-Ok.ensures.added in
-    read_with areas cases regions_text text2 law.written law.written2 law.one_reading c.code-ranges.ensures.rules c.requires.by_address c.requires.each
-    (text_with areas cases c.requires.none)
-    adds.before c.in-Ok.text.items adds.migrated.areas adds.added.areas made adds.migrated.old adds.migrated.appended adds.added.old adds.added.appended
-    (subst (λ t. Spells t made) c.deref.ensures.value c.in-Ok-read_regions.ensures.spelled)
+pub regions_with_cases-requires-clause-new : goal.regions_with_cases-requires-clause-new
+regions_with_cases-requires-clause-new c = none_declared c.args.regions.now c.args.cases.now c.requires.none
+
+pub returns-in-Ok : goal.returns-in-Ok
+returns-in-Ok c =
+    let made = c.in-Ok.made in
+    read_with c.args.regions.now c.args.cases.now c.in_ok-text.text.items c.requires.none c.requires.by_address c.in_ok-text.ensures made
+    c.text_of_regions_is_read_as_itself.ensures.one_reading (subst (λ t. Spells t made) c.deref.ensures.value c.in-Ok.ensures.spelled)
+
+pub unreachable-requires : goal.unreachable-requires
+unreachable-requires c =
+    let fault = c.in-Err.fault in
+    c.in_default.not-Memory
+    (only_memory c.args.regions.now c.args.cases.now c.in_ok-text.text.items c.requires.none c.requires.by_address c.in_ok-text.ensures fault
+    c.text_of_regions_is_read_as_itself.ensures.not_refused (subst (λ t. Refuses t fault) c.deref.ensures.value c.in-Err.ensures.refused))
