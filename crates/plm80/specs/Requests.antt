@@ -13,12 +13,13 @@ use Rattle.plm80_objects.specs.Modules.{AnswersModules, DescribesModules, GivesU
 use Rattle.plm80_objects.specs.{Compare.ComparesFiles, Find.FindsModules, Link.LinksFiles}
 use Rattle.plm80_programs.specs.Arguments.{AreCallsArguments, AreCheckArguments, AreExplainArguments, AreFollowArguments, AreListArguments, AreReportArguments, AreStoresArguments}
 use Rattle.plm80_regions.specs.Arguments.{AreCasesArguments, AreRegionsArguments, cases_path}
-use Rattle.plm80_runs.specs.Arguments.{AreBoardCoverArguments, AreBoardRunArguments, AreBoardTraceArguments, AreCoverArguments, AreRunArguments, AreTraceArguments, run_paths}
+use Rattle.plm80_runs.specs.Arguments.{AreBoardRunArguments, AreBoardTraceArguments, AreCoverArguments, AreRunArguments, AreTraceArguments, run_paths}
 use Rattle.plm80_programs.specs.Following.{AnswersFollowing}
 use Rattle.plm80_programs.specs.Pages.{AnswersPage}
 use Rattle.plm80_programs.specs.Printed.{AnswersStores, PrintsCalls, PrintsListing, PrintsReport}
 use Rattle.plm80_runs.specs.{Running.CoversFiles, Running.RunsFiles, Running.TracesFiles, Running.TracesFilesInPart}
-use Rattle.plm80_runs.specs.OnBoards.{CoversBoardFiles, RunsOnBoard, TracesBoardFiles, TracesBoardFilesInPart, board_program_paths}
+use Rattle.plm80_runs.specs.declared.board_run.RunOutput.TheVariants.{Transcript, Counts}
+use Rattle.plm80_runs.specs.OnBoards.{RunsOnBoard, TracesBoardFiles, TracesBoardFilesInPart, board_program_paths}
 use Rattle.plm80_regions.specs.Cases.{AnswersCases, AnswersCasesInPart}
 use Rattle.plm80_runs.specs.InputWords.{AnswersWords, AreInputsArguments}
 use Rattle.plm80_programs.specs.Explanations.{PrintsExplanation}
@@ -80,7 +81,7 @@ AreArgumentsOf matches (request.Calls arguments) = AreCallsArguments matches arg
 AreArgumentsOf matches (request.Trace arguments) = AreTraceArguments matches arguments × (first_value (found_of matches) (codes "board") ≡ None)
 AreArgumentsOf matches (request.TraceOnBoard arguments) = AreBoardTraceArguments matches arguments
 AreArgumentsOf matches (request.Cover arguments) = AreCoverArguments matches arguments × (first_value (found_of matches) (codes "board") ≡ None)
-AreArgumentsOf matches (request.CoverOnBoard arguments) = AreBoardCoverArguments matches arguments
+AreArgumentsOf matches (request.CoverOnBoard arguments) = AreBoardRunArguments matches arguments
 AreArgumentsOf matches (request.Module arguments) = arguments.object.now ≡ argument_text matches (codes "FILE")
 AreArgumentsOf matches (request.Find arguments) = AreFindArguments matches arguments
 AreArgumentsOf matches (request.Suggest arguments) = AreSuggestArguments matches arguments
@@ -107,7 +108,7 @@ abbrev pub Does : (Whole : (Answers : List FileValue → AnswerValue → Type 0)
 Does Whole InPart Library (request.Link arguments) = Whole (LinksFiles arguments) (map (λ path. path.now) arguments.files.items)
 Does Whole InPart Library (request.Locate arguments) = Whole (WithBoard arguments.board (LocatesFile arguments)) (board_paths arguments.board ++ arguments.object.now ∷ [])
 Does Whole InPart Library (request.Run arguments) = Whole (RunsFiles arguments) (run_paths arguments.files)
-Does Whole InPart Library (request.RunOnBoard arguments) = Whole (RunsOnBoard arguments) (board_program_paths arguments.files)
+Does Whole InPart Library (request.RunOnBoard arguments) = Whole (RunsOnBoard Transcript arguments) (board_program_paths arguments.files)
 Does Whole InPart Library (request.List arguments) = Whole (AnswersProgram (PrintsListing arguments.reached arguments.source) (asks_names arguments.files)) (program_paths arguments.files)
 Does Whole InPart Library (request.Check arguments) = Whole (WithBoard arguments.board (λ _. AnswersProgram PrintsReport (asks_names arguments.files))) (board_paths arguments.board ++ program_paths arguments.files)
 Does Whole InPart Library (request.Explain arguments) = Whole (WithBoard arguments.board (λ _. AnswersProgram (PrintsExplanation arguments.all) (asks_names arguments.files))) (board_paths arguments.board ++ program_paths arguments.files)
@@ -125,7 +126,7 @@ Does Whole InPart Library (request.Calls arguments) = Whole (WithBoard arguments
 Does Whole InPart Library (request.Trace arguments) = InPart (TracesFiles arguments) (TracesFilesInPart arguments) (run_paths arguments.files)
 Does Whole InPart Library (request.TraceOnBoard arguments) = InPart (TracesBoardFiles arguments) (TracesBoardFilesInPart arguments) (board_program_paths arguments.files)
 Does Whole InPart Library (request.Cover arguments) = Whole (CoversFiles arguments) (run_paths arguments.files)
-Does Whole InPart Library (request.CoverOnBoard arguments) = Whole (CoversBoardFiles arguments) (board_program_paths arguments.files)
+Does Whole InPart Library (request.CoverOnBoard arguments) = Whole (RunsOnBoard Counts arguments) (board_program_paths arguments.files)
 Does Whole InPart Library (request.Module arguments) = Whole (AnswersModules DescribesModules) (arguments.object.now ∷ [])
 Does Whole InPart Library (request.Find arguments) = Whole (FindsModules arguments) (arguments.dump.now ∷ map (λ path. path.now) arguments.files.items)
 Does Whole InPart Library (request.Suggest arguments) = Whole (WithBoard arguments.board (AnswersAdvice arguments)) (board_paths arguments.board ++ arguments.image.now ∷ [])

@@ -22,8 +22,8 @@ use plm80_programs::{
 };
 use plm80_regions::{advise_file, migrate_file, suggest_for_files};
 use plm80_runs::{
-    cover_among_devices, cover_files, run_among_devices, run_files, trace_among_devices,
-    trace_files, write_inputs_file,
+    RunOutput, cover_files, run_among_devices, run_files, trace_among_devices, trace_files,
+    write_inputs_file,
 };
 use std::alloc::AllocError;
 use std::process::ExitCode;
@@ -80,7 +80,9 @@ fn perform<C: Console>(console: &mut C, request: Request<'_>) -> Result<u8, Repo
         Request::Link(arguments) => link_files(console, &arguments),
         Request::Locate(arguments) => locate_file(console, &arguments),
         Request::Run(arguments) => run_files(console, arguments),
-        Request::RunOnBoard(arguments) => run_among_devices(console, arguments),
+        Request::RunOnBoard(arguments) => {
+            run_among_devices(console, arguments, RunOutput::Transcript)
+        }
         Request::List(arguments) => list_files(console, arguments),
         Request::Check(arguments) => check_files(console, arguments),
         Request::Explain(arguments) => explain_files(console, arguments),
@@ -98,7 +100,9 @@ fn perform<C: Console>(console: &mut C, request: Request<'_>) -> Result<u8, Repo
         Request::Trace(arguments) => trace_files(console, arguments),
         Request::TraceOnBoard(arguments) => trace_among_devices(console, arguments),
         Request::Cover(arguments) => cover_files(console, arguments),
-        Request::CoverOnBoard(arguments) => cover_among_devices(console, arguments),
+        Request::CoverOnBoard(arguments) => {
+            run_among_devices(console, arguments, RunOutput::Counts)
+        }
         Request::Module(arguments) => describe_file(console, arguments),
         Request::Find(arguments) => find_modules(console, &arguments),
         Request::Suggest(arguments) => advise_file(console, &arguments),

@@ -5,7 +5,6 @@ use Rattle.clap.specs.{declared.parser.matches.ArgMatches.ArgMatches, Matches.fi
 use Rattle.plm80_boards.specs.Boards.{IsBoardPath}
 use Rattle.plm80_console.specs.Arguments.{argument_text}
 use Rattle.plm80_names.specs.Arguments.{AreNamedFiles}
-use Rattle.plm80_runs.specs.declared.board_cover.BoardCoverArguments.{BoardCoverArguments}
 use Rattle.plm80_runs.specs.declared.board_files.BoardFiles.{BoardFiles}
 use Rattle.plm80_runs.specs.declared.board_run.BoardRunArguments.{BoardRunArguments}
 use Rattle.plm80_runs.specs.declared.board_trace.BoardTraceArguments.{BoardTraceArguments}
@@ -63,10 +62,6 @@ pub record AreBoardTraceArguments (matches : ArgMatches) (arguments : BoardTrace
   pub files : AreBoardFiles matches arguments.files
   pub limits : AreLimitTexts matches arguments.limits
   pub span : AreSpanTexts matches arguments.span
-
-pub record AreBoardCoverArguments (matches : ArgMatches) (arguments : BoardCoverArguments) : Type 0 where
-  pub files : AreBoardFiles matches arguments.files
-  pub limits : AreLimitTexts matches arguments.limits
 
 -- the arguments of a run on a board
 pub record AreBoardRunArguments (matches : ArgMatches) (arguments : BoardRunArguments) : Type 0 where

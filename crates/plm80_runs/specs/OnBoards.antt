@@ -19,9 +19,10 @@ use Rattle.plm80_console.specs.Journal.{FileValue, Journal}
 use Rattle.plm80_names.specs.{Arguments.asks_names, Arguments.program_paths, Verdict.AnswersProgram}
 use Rattle.plm80_names.specs.{Verdict.HaveNoProgram, Verdict.IsAccepted, Verdict.IsProgramRead, Verdict.IsRefusal}
 use Rattle.plm80_runs.specs.{Running.AreLimitsOf, Running.IsSpanOf, Running.named_ending, Status.board_end_status}
-use Rattle.plm80_runs.specs.declared.board_cover.BoardCoverArguments.{BoardCoverArguments}
 use Rattle.plm80_runs.specs.declared.board_files.BoardFiles.{BoardFiles}
 use Rattle.plm80_runs.specs.declared.board_run.BoardRunArguments.{BoardRunArguments}
+use Rattle.plm80_runs.specs.declared.board_run.RunOutput.{RunOutput}
+use Rattle.plm80_runs.specs.declared.board_run.RunOutput.TheVariants.{Transcript, Counts}
 use Rattle.plm80_runs.specs.declared.board_trace.BoardTraceArguments.{BoardTraceArguments}
 use Rattle.plm80_runs.specs.declared.runnable.{Judged.Judged, Judged.TheVariants.Refused, Judged.TheVariants.Runs}
 use Rattle.plm80_runs.specs.declared.runnable.{Runnable.Runnable, Runnable.TheVariants.Accepted, Runnable.TheVariants.Followed}
@@ -146,11 +147,6 @@ pub record TranscribesRun (limits : Limits) (lines : List Line) (publics : List 
   pub transcript : IsRunTranscript lines (image_of program) (stack_bytes_of program) limits ended text
   pub answer_is : answer ≡ prints (first_line program ++ named_ending (image_of program).regions.code publics text) (board_end_status ended.end)
 
-pub record RunsOnBoard (arguments : BoardRunArguments) (files : List FileValue) (answer : AnswerValue) : Type 0 where
-  pub limits : Limits
-  pub are_limits : AreLimitsOf arguments.limits limits
-  pub answers : AnswersRunOnBoard (TranscribesRun limits) arguments.files files answer
-
 -- ---- trace
 
 -- how a run ended: its last line with a name, and its exit status
@@ -224,7 +220,12 @@ pub record CoversOnBoard (limits : Limits) (lines : List Line) (publics : List P
   pub covers : CoversProgram program counts.steps.items listed
   pub answer_is : answer ≡ prints (first_line program ++ labelled_text publics false listed) (board_end_status counts.ended.end)
 
-pub record CoversBoardFiles (arguments : BoardCoverArguments) (files : List FileValue) (answer : AnswerValue) : Type 0 where
+-- what is printed of a run: its transcript, or the code with its counts
+abbrev pub PrintsRun : RunOutput → Limits → List Line → List Public → Runnable → AnswerValue → Type 0
+PrintsRun Transcript limits lines publics program answer = TranscribesRun limits lines publics program answer
+PrintsRun Counts limits lines publics program answer = CoversOnBoard limits lines publics program answer
+
+pub record RunsOnBoard (output : RunOutput) (arguments : BoardRunArguments) (files : List FileValue) (answer : AnswerValue) : Type 0 where
   pub limits : Limits
   pub are_limits : AreLimitsOf arguments.limits limits
-  pub answers : AnswersRunOnBoard (CoversOnBoard limits) arguments.files files answer
+  pub answers : AnswersRunOnBoard (PrintsRun output limits) arguments.files files answer

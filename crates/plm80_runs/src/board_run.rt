@@ -1,12 +1,13 @@
-//! `plm80 run --board`: the transcript of a located program's run among the devices of a board.
+//! `plm80 run --board` and `plm80 cover --board`: what is printed of a located program's run among the devices of a board.
 
 ghost use Rattle.std.specs.Prelude.{◌≡◌, None, IfErr, IfNone, IfOk, IfSome, codes};
 ghost use Rattle.clap.specs.Matches.{first_value, found_of};
 ghost use Rattle.machine80_board.specs.BoardRun.{DevicesAreData};
 ghost use Rattle.plm80_console.specs.Answer.{Gives, GivesUp};
 ghost use Rattle.plm80_runs.specs.Arguments.{AreBoardRunArguments};
-ghost use Rattle.plm80_runs.specs.OnBoards.{RunsOnBoard, TranscribesRun, board_program_paths, image_of};
+ghost use Rattle.plm80_runs.specs.OnBoards.{PrintsRun, RunsOnBoard, TranscribesRun, board_program_paths, image_of};
 
+use crate::board_cover::cover_run;
 use crate::board_files::BoardFiles;
 use crate::endings::name_ending;
 use crate::on_board::{BoardCommand, Ran, print_on_board, print_ran};
@@ -21,7 +22,7 @@ use plm80_console::{Answer, Console, Reported};
 use plm80_names::Names;
 use std::alloc::{AllocError, Global};
 
-/// The arguments of the command `run` with a board in place of inputs.
+/// The arguments of the commands `run` and `cover` with a board in place of inputs.
 #[derive(Clone, Copy)]
 pub struct BoardRunArguments<'a> {
     files: BoardFiles<'a>,
@@ -29,7 +30,7 @@ pub struct BoardRunArguments<'a> {
 }
 
 impl<'a> BoardRunArguments<'a> {
-    /// Takes the arguments of `run` from what clap has matched; `None` if no board is given.
+    /// Takes the arguments of `run` or `cover` from what clap has matched; `None` if no board is given.
     pub fn of(matches: &ArgMatches<'a>) -> Option<BoardRunArguments<'a>>
         ensures given { IfSome result (AreBoardRunArguments matches.now) }
         ensures none { IfNone result (first_value (found_of matches.now) (codes "board") ≡ None) }
@@ -42,33 +43,44 @@ impl<'a> BoardRunArguments<'a> {
     }
 }
 
-/// Does `run --board`: runs the image among the devices of the board if the verifier accepts it or a table follows it, prints the
-/// transcript, or the refusal of the image, and returns the exit status.
+/// What is printed of a run.
+#[derive(Clone, Copy)]
+pub enum RunOutput {
+    /// Its transcript, as by `run`.
+    Transcript,
+    /// The program's code with how often the run began each instruction, as by `cover`.
+    Counts,
+}
+
+/// Does `run --board` or `cover --board`: runs the image among the devices of the board if the verifier accepts it or a table follows it,
+/// prints what is asked for of the run, or the refusal of the image, and returns the exit status: that of the run, 1 for a refusal.
 pub fn run_among_devices<C: Console>(
     console: &mut C,
     arguments: BoardRunArguments<'_>,
+    output: RunOutput,
 ) -> Result<u8, Reported>
-    ensures done { let asked = arguments.entry in IfOk result (Gives (RunsOnBoard asked) (board_program_paths asked.files)
+    ensures done { let asked = arguments.entry in IfOk result (Gives (RunsOnBoard output asked) (board_program_paths asked.files)
         (C.journal console.old) (C.journal console.new)) }
-    ensures fault { let asked = arguments.entry in IfErr result (λ _. GivesUp (RunsOnBoard asked) (board_program_paths asked.files)
+    ensures fault { let asked = arguments.entry in IfErr result (λ _. GivesUp (RunsOnBoard output asked) (board_program_paths asked.files)
         (C.journal console.old) (C.journal console.new)) }
 {
     let limits = arguments.limits.numbers(console)?;
-    let given = print_on_board(console, arguments.files, Transcript { limits });
+    let given = print_on_board(console, arguments.files, BoardRun { limits, output });
     arguments.files.program.explain(console, &given);
     given
 }
 
-/// The transcript of a run within these limits.
+/// A run within these limits.
 #[derive(Clone, Copy)]
-struct Transcript {
+struct BoardRun {
     limits: Limits,
+    output: RunOutput,
 }
 
-impl BoardCommand for Transcript {
-    ghost answers = { λ self. TranscribesRun self.limits };
+impl BoardCommand for BoardRun {
+    ghost answers = { λ self. PrintsRun self.output self.limits };
 
-    ghost begins = { λ self. TranscribesRun self.limits };
+    ghost begins = { λ self. PrintsRun self.output self.limits };
 
     fn print<C: Console>(
         self,
@@ -77,8 +89,30 @@ impl BoardCommand for Transcript {
         names: &Names,
         board: &Board,
     ) -> Result<u8, Reported> {
-        let ran = transcribe(console.alloc(), program, names, board, self.limits);
+        let ran = self.run(console.alloc(), program, names, board);
         print_ran(console, ran)
+    }
+}
+
+impl BoardRun {
+    /// What is printed of a program's run on a board, and how the run ends. The board's devices must lie in the program's data.
+    ///
+    /// # Errors
+    /// `AllocError` only if memory runs out.
+    fn run(
+        self,
+        alloc: Global,
+        program: &Runnable,
+        names: &Names,
+        board: &Board,
+    ) -> Result<Ran, AllocError>
+        requires { DevicesAreData board.now (image_of program.now).regions }
+        ensures { IfOk result (λ ran. PrintsRun self.output self.limits board.now names.now program.now ran.answer) }
+    {
+        match self.output {
+            RunOutput::Transcript => transcribe(alloc, program, names, board, self.limits),
+            RunOutput::Counts => cover_run(alloc, program, names, board, self.limits),
+        }
     }
 }
 

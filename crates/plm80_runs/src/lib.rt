@@ -5,11 +5,10 @@
 //! | Item | What it is |
 //! |---|---|
 //! | [`run_files`] | `run`: the transcript of a run, its last instructions, the memory that it leaves |
-//! | [`run_among_devices`] | `run --board`: the transcript of a run among the devices of a board |
+//! | [`run_among_devices`], [`RunOutput`] | `run --board` and `cover --board`: the transcript of a run among the devices of a board, or the code with how often it began each instruction |
 //! | [`trace_files`] | `trace`: the instructions of a run, a line each |
 //! | [`trace_among_devices`] | `trace --board`: the instructions of a run among the devices of a board |
 //! | [`cover_files`] | `cover`: the code, with how often a run began each instruction |
-//! | [`cover_among_devices`] | `cover --board`: the code, with how often a run among the devices of a board began each instruction |
 //! | [`write_inputs_file`] | `inputs`: the text of a run's inputs, from words |
 //! | [`status_of`], [`EndWords`] | the exit status of a run; words on how it ended |
 #![tactic(auto)]
@@ -30,8 +29,7 @@ mod status;
 mod trace;
 mod watching;
 
-pub use board_cover::{BoardCoverArguments, cover_among_devices};
-pub use board_run::{BoardRunArguments, run_among_devices};
+pub use board_run::{BoardRunArguments, RunOutput, run_among_devices};
 pub use board_trace::{BoardTraceArguments, trace_among_devices};
 pub use cover::{COVER, CoverArguments, cover_files};
 pub use inputs::{INPUTS, InputsArguments, write_inputs_file};

@@ -20,8 +20,8 @@ use plm80_programs::{
 };
 use plm80_regions::{CASES, CasesArguments, RegionsArguments, SuggestArguments};
 use plm80_runs::{
-    BoardCoverArguments, BoardRunArguments, BoardTraceArguments, CoverArguments, InputsArguments,
-    RUN, RunArguments, TraceArguments,
+    BoardRunArguments, BoardTraceArguments, CoverArguments, InputsArguments, RUN, RunArguments,
+    TraceArguments,
 };
 use std::alloc::{AllocError, Global};
 
@@ -49,7 +49,7 @@ pub enum Request<'a> {
     Trace(TraceArguments<'a>),
     TraceOnBoard(BoardTraceArguments<'a>),
     Cover(CoverArguments<'a>),
-    CoverOnBoard(BoardCoverArguments<'a>),
+    CoverOnBoard(BoardRunArguments<'a>),
     Module(ModuleArguments<'a>),
     Find(FindArguments<'a>),
     Suggest(SuggestArguments<'a>),
@@ -264,7 +264,7 @@ fn cover_request<'a>(arguments: &ArgMatches<'a>) -> Request<'a>
     ensures name { command_name result ≡ codes "cover" }
     ensures arguments { AreArgumentsOf arguments.now result }
 {
-    match BoardCoverArguments::of(arguments) {
+    match BoardRunArguments::of(arguments) {
         Some(asked) => Request::CoverOnBoard(asked),
         None => Request::Cover(CoverArguments::of(arguments)),
     }
