@@ -1,3 +1,4 @@
+mod FetchLemmas
 mod OnBoardLemmas
 mod DecideLemmas
 mod StatesLemmas

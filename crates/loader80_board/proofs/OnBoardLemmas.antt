@@ -30,7 +30,7 @@ use Rattle.board80.specs.declared.place.Place.TheVariants.{Port, Cell}
 use Rattle.board80.specs.Board.{in_device}
 use Rattle.machine80_board.specs.BoardRun.{BoardState, DevicesAreData, IsReached, Steps, answered, board_start, machine_by, no_inputs, reads_by, without_ports, begins as begun, goes_on}
 use Rattle.machine80_board.specs.Exchanges.{is_answered, loads, places_read}
-use Rattle.verify80.proofs.BoardSteps.{fetched_inside}
+use Rattle.loader80_board.proofs.FetchLemmas.{anywhere_of}
 use Rattle.loader80_board.specs.OnBoards.{LeavesQuiet, RunsAreOnBoards, RunsAreOnQuietBoards, StartsHoldBytes}
 
 -- ---- what answers leave of a machine
@@ -283,7 +283,7 @@ module _ (code_or_data : (areas : Areas) (address : ℕ) → AreRegions areas �
         found = p.found;
         byte = o.byte;
         after = o.after;
-        fetched = fetched_inside image.regions fed.memory s.machine.cpu.pc p.found fetched;
+        fetched = anywhere_of image.regions fed.memory s.machine.cpu.pc p.found fetched;
         small = o.small;
         inside = λ here. record { stores = stores; jumps = o.jumps };
         goes = o.goes;
