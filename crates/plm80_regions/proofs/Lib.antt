@@ -1,4 +1,5 @@
 pub mod CaseLemmas
+mod FoundLemmas
 mod CaseTextLemmas
 mod OptionLemmas
 mod Names

@@ -2,7 +2,7 @@ use Rattle.plm80_regions.proofs.Names.{ℕ, List, [], ◌∷◌, ◌∙◌, ap, 
 use Rattle.plm80_regions.proofs.Names.{behind_file, prints, notes_status}
 use Rattle.plm80_regions.proofs.Names.{All, None, sym, ◌≡◌}
 use Rattle.image80.specs.{Case.AreByAddress, Case.IsCase, Regions.targets_at}
-use Rattle.plm80_regions.proofs.CaseLemmas.{finds_by_address, finds_new, finds_rules}
+use Rattle.plm80_regions.proofs.FoundLemmas.{finds_by_address, finds_new, finds_rules}
 use Rattle.plm80_regions.proofs.cases.added_cases.Goals as goal
 
 pub regions_with_cases-requires-clause-by_address : goal.regions_with_cases-requires-clause-by_address
