@@ -4,7 +4,7 @@ use crate::byte_list::ByteList;
 use crate::table::Table;
 
 /// What a port or a cell answers each time that it is read.
-#[derive(Debug, Drop)]
+#[derive(Drop)]
 pub enum Answers {
     /// The next byte of a list.
     Listed(ByteList),

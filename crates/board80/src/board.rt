@@ -12,7 +12,7 @@ use std::marker::Model;
 ///
 /// No address is in two ranges; no port, no cell and no interrupt stands twice; and a cell that is read, or that a
 /// table goes by, lies in a DEVICE range of an earlier line.
-#[derive(Debug, Drop)]
+#[derive(Drop)]
 pub struct Board {
     /// The lines, in order.
     lines: Vec<Line>,

@@ -6,7 +6,7 @@ ghost use Rattle.board80.specs.Answers.{byte_at, bytes_of};
 use std::marker::Model;
 
 /// Bytes in brackets, at least one.
-#[derive(Debug, Drop)]
+#[derive(Drop)]
 pub struct Group {
     /// The first byte.
     pub first: u8,
@@ -23,7 +23,7 @@ impl Model for Group {
 }
 
 /// The bytes that an item repeats.
-#[derive(Debug, Drop)]
+#[derive(Drop)]
 pub enum Bytes {
     /// A byte, written without brackets.
     One(u8),
@@ -62,7 +62,7 @@ impl Bytes {
 }
 
 /// Bytes that come a number of times, one after another.
-#[derive(Debug, Drop)]
+#[derive(Drop)]
 pub struct Item {
     /// The bytes.
     pub bytes: Bytes,
@@ -72,7 +72,7 @@ pub struct Item {
 
 /// The bytes that a place answers, one at each read: those of items, and then, if there are any, bytes that come again
 /// and again for ever.
-#[derive(Debug, Drop)]
+#[derive(Drop)]
 pub struct ByteList {
     /// The items, in order.
     pub items: Vec<Item>,

@@ -11,7 +11,7 @@ use crate::slots::{CELLS, INTERRUPTS, PORTS, Slots};
 use image80::Range;
 
 /// What lies at the addresses of a range.
-#[derive(Clone, Copy, Debug, PartialEq, Eq)]
+#[derive(Clone, Copy, PartialEq, Eq)]
 pub enum Kind {
     /// Memory that a program can only read.
     Rom,
@@ -22,7 +22,7 @@ pub enum Kind {
 }
 
 /// A line of a board's text, after the first.
-#[derive(Debug, Drop)]
+#[derive(Drop)]
 pub enum Line {
     /// `ROM`, `RAM` or `DEVICE`: a range of memory, which has an address at least.
     Memory(Kind, Range),

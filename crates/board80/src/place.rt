@@ -1,7 +1,7 @@
 //! Where a program reads a device.
 
 /// A port, or a cell of a device in memory.
-#[derive(Clone, Copy, Debug, PartialEq, Eq)]
+#[derive(Clone, Copy, PartialEq, Eq)]
 pub enum Place {
     /// A port, read by IN and written by OUT.
     Port(u8),

@@ -7,7 +7,7 @@ use crate::place::Place;
 use std::marker::Model;
 
 /// A byte that was put out, and the answer to it.
-#[derive(Clone, Copy, Debug, PartialEq, Eq)]
+#[derive(Clone, Copy, PartialEq, Eq)]
 pub struct Row {
     /// The byte that was put out.
     pub byte: u8,
@@ -16,7 +16,7 @@ pub struct Row {
 }
 
 /// Answers by the last byte that was put out at a port or stored at a cell.
-#[derive(Debug, Drop)]
+#[derive(Drop)]
 pub struct Table {
     /// Where the byte is put out.
     pub source: Place,

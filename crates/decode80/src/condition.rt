@@ -1,7 +1,7 @@
 //! The conditions of jumps, calls and returns.
 
 /// What a conditional jump, call or return asks of the flags: a field of three bits, 0 to 7 in this order.
-#[derive(Clone, Copy, Debug, PartialEq, Eq)]
+#[derive(Clone, Copy, PartialEq, Eq)]
 pub enum Condition {
     /// NZ: the zero flag is 0.
     NonZero,

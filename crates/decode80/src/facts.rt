@@ -12,7 +12,7 @@ use crate::storing::Storing;
 use crate::writes::{AffectedFlags, Writes};
 
 /// How an instruction goes on, what it writes, and where it stores.
-#[derive(Clone, Copy, Debug, PartialEq, Eq)]
+#[derive(Clone, Copy, PartialEq, Eq)]
 pub struct Facts {
     /// How the instruction goes on, and what it does with the stack.
     pub flow: Flow,

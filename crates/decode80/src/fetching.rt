@@ -48,7 +48,7 @@ pub trait Program {
 }
 
 /// An instruction and the address after it.
-#[derive(Clone, Copy, Debug, PartialEq, Eq)]
+#[derive(Clone, Copy, PartialEq, Eq)]
 pub struct Fetched {
     /// The instruction.
     pub instr: Instr,
@@ -57,7 +57,7 @@ pub struct Fetched {
 }
 
 /// Why an address holds no instruction.
-#[derive(Clone, Copy, Debug, PartialEq, Eq)]
+#[derive(Clone, Copy, PartialEq, Eq)]
 pub enum FetchFault {
     /// A byte of the instruction is no code, or lies past FFFF.
     Outside,

@@ -5,7 +5,7 @@ use crate::condition::Condition;
 /// How an instruction goes on, and what it does with the stack: to the next instruction; by a jump, a call or a return, under a
 /// condition or under none; to the next instruction after a push, a pop, or an exchange of HL with the top of the stack; or not at
 /// all.
-#[derive(Clone, Copy, Debug, PartialEq, Eq)]
+#[derive(Clone, Copy, PartialEq, Eq)]
 pub enum Flow {
     /// To the next instruction, with the stack untouched.
     Continues,

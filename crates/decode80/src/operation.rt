@@ -3,7 +3,7 @@
 use crate::register::Register;
 
 /// An operation on the accumulator: a field of three bits, 0 to 7 in this order.
-#[derive(Clone, Copy, Debug, PartialEq, Eq)]
+#[derive(Clone, Copy, PartialEq, Eq)]
 pub enum Operation {
     /// ADD, ADI: add.
     Add,
@@ -79,7 +79,7 @@ impl Operation {
 }
 
 /// Where an operation takes its second value from.
-#[derive(Clone, Copy, Debug, PartialEq, Eq)]
+#[derive(Clone, Copy, PartialEq, Eq)]
 pub enum Operand {
     /// A register.
     Register(Register),

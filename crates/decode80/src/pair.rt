@@ -1,7 +1,7 @@
 //! The register pairs that an instruction can name.
 
 /// A register pair of LXI, DAD, INX and DCX: a field of two bits, 0 to 3 in this order.
-#[derive(Clone, Copy, Debug, PartialEq, Eq)]
+#[derive(Clone, Copy, PartialEq, Eq)]
 pub enum Pair {
     /// B (high) and C (low).
     Bc,
@@ -45,7 +45,7 @@ impl Pair {
 }
 
 /// A register pair of PUSH and POP: a field of two bits, 0 to 3 in this order.
-#[derive(Clone, Copy, Debug, PartialEq, Eq)]
+#[derive(Clone, Copy, PartialEq, Eq)]
 pub enum StackPair {
     /// B (high) and C (low).
     Bc,
@@ -89,7 +89,7 @@ impl StackPair {
 }
 
 /// The register pair that STAX and LDAX take an address from: 0 or 1 in the opcode, in this order.
-#[derive(Clone, Copy, Debug, PartialEq, Eq)]
+#[derive(Clone, Copy, PartialEq, Eq)]
 pub enum IndexPair {
     /// B (high) and C (low).
     Bc,

@@ -3,7 +3,7 @@
 /// The number of a restart: RST n calls the address 8 times n. A field of three bits, 0 to 7 in this order.
 ///
 /// The values are called vectors, so that none bears the name of a value of [`Condition`](crate::Condition).
-#[derive(Clone, Copy, Debug, PartialEq, Eq)]
+#[derive(Clone, Copy, PartialEq, Eq)]
 pub enum Restart {
     /// RST 0 calls 0000.
     Vector0,

@@ -1,7 +1,7 @@
 //! The four rotations of the accumulator.
 
 /// A rotation of the accumulator by one bit.
-#[derive(Clone, Copy, Debug, PartialEq, Eq)]
+#[derive(Clone, Copy, PartialEq, Eq)]
 pub enum Rotation {
     /// RLC: bit 7 goes into bit 0 and the carry.
     Left,

@@ -3,7 +3,7 @@
 use crate::pair::IndexPair;
 
 /// Where an instruction stores, apart from the stack, to which PUSH, XTHL, RST and calls write.
-#[derive(Clone, Copy, Debug, PartialEq, Eq)]
+#[derive(Clone, Copy, PartialEq, Eq)]
 pub enum Storing {
     /// The instruction stores nowhere, or only on the stack.
     Nowhere,

@@ -5,7 +5,7 @@ use crate::register::Register;
 
 /// The registers that an instruction writes, apart from the program counter, and from the stack pointer if it pushes
 /// or pops.
-#[derive(Clone, Copy, Debug, PartialEq, Eq)]
+#[derive(Clone, Copy, PartialEq, Eq)]
 pub enum Writes {
     /// No register.
     Nothing,
@@ -40,7 +40,7 @@ impl Writes {
 }
 
 /// The flags that an instruction affects.
-#[derive(Clone, Copy, Debug, PartialEq, Eq)]
+#[derive(Clone, Copy, PartialEq, Eq)]
 pub enum AffectedFlags {
     /// No flag.
     NoFlags,

@@ -7,7 +7,7 @@ use crate::fault::FrameFault;
 use crate::frame_pair::FramePair;
 
 /// How an instruction changes a frame before it goes on to the next one.
-#[derive(Clone, Copy, Debug, PartialEq, Eq)]
+#[derive(Clone, Copy, PartialEq, Eq)]
 pub enum Change {
     /// Nothing changes.
     Keep,
@@ -30,7 +30,7 @@ pub enum Change {
 }
 
 /// What an instruction does: how it changes a frame, and where it goes on.
-#[derive(Clone, Copy, Debug, PartialEq, Eq)]
+#[derive(Clone, Copy, PartialEq, Eq)]
 pub enum Effect {
     /// Goes on to the next instruction with a changed frame.
     Change(Change),

@@ -1,7 +1,7 @@
 //! The register pairs of a frame.
 
 /// A register pair that may hold a return address.
-#[derive(Clone, Copy, Debug, PartialEq, Eq)]
+#[derive(Clone, Copy, PartialEq, Eq)]
 pub enum FramePair {
     /// B (high) and C (low).
     Bc,

@@ -10,7 +10,7 @@ use crate::fault::FrameFault::{self, PopsBelow, ReturnFromMain, ReturnNotOwn, Se
 use crate::role::Role;
 
 /// What the checks of pops and returns need to know of a frame's own words.
-#[derive(Clone, Copy, Debug, PartialEq, Eq)]
+#[derive(Clone, Copy, PartialEq, Eq)]
 pub enum Holding {
     /// The procedure has no words of its own on the stack.
     Nothing,

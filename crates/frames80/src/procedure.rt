@@ -4,7 +4,7 @@ ghost use Rattle.std.specs.Prelude.{◌≡◌, ◌<◌};
 ghost use Rattle.frames80.specs.Procedures.{slot_of};
 
 /// A procedure: the main program, which starts at the image's start address, or one that a call or RST reaches.
-#[derive(Clone, Copy, Debug, PartialEq, Eq)]
+#[derive(Clone, Copy, PartialEq, Eq)]
 pub enum Procedure {
     /// The main program.
     Main,

@@ -3,7 +3,7 @@
 use std::marker::Model;
 
 /// The number of a frame in the `Frames` that it comes from.
-#[derive(Clone, Copy, PartialEq, Eq, Debug)]
+#[derive(Clone, Copy, PartialEq, Eq)]
 pub struct FrameId {
     number: u32,
 }

@@ -16,7 +16,7 @@ use place80::{Image, Options, locate};
 use std::alloc::Global;
 
 /// What [`build`] makes.
-#[derive(Debug, Drop)]
+#[derive(Drop)]
 pub struct Built {
     /// The image of the linked and located modules.
     pub image: Image,

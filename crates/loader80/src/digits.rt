@@ -20,7 +20,7 @@ pub fn bytes_of_digits(alloc: Global, digits: &[u8]) -> Result<Option<Vec<u8>>, 
 }
 
 /// A byte that is printed as two hexadecimal digits in upper case.
-#[derive(Clone, Copy, Debug)]
+#[derive(Clone, Copy)]
 pub struct ByteDigits(pub u8);
 
 impl fmt::Display for ByteDigits {
@@ -37,7 +37,7 @@ impl fmt::Display for ByteDigits {
 }
 
 /// A word that is printed as four hexadecimal digits in upper case.
-#[derive(Clone, Copy, Debug)]
+#[derive(Clone, Copy)]
 pub struct WordDigits(pub u16);
 
 impl fmt::Display for WordDigits {

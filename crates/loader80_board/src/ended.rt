@@ -3,7 +3,7 @@
 use machine80_board::BoardEnd;
 
 /// How a run on a board ended, or was stopped.
-#[derive(Clone, Copy, Debug, PartialEq, Eq)]
+#[derive(Clone, Copy, PartialEq, Eq)]
 pub struct BoardEnded {
     /// How the run ended; `None` if the steps were used up.
     pub end: Option<BoardEnd>,

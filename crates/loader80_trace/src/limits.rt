@@ -6,7 +6,7 @@ ghost use Rattle.loader80_trace.specs.Traces.{last_number};
 use loader80::Ended;
 
 /// How long a run may last.
-#[derive(Clone, Copy, Debug, PartialEq, Eq)]
+#[derive(Clone, Copy, PartialEq, Eq)]
 pub struct Limits {
     /// The greatest number of steps.
     pub steps: u64,
@@ -15,7 +15,7 @@ pub struct Limits {
 }
 
 /// Consecutive instructions of a run.
-#[derive(Clone, Copy, Debug, PartialEq, Eq)]
+#[derive(Clone, Copy, PartialEq, Eq)]
 pub struct Span {
     /// How many steps of the run come before the first instruction.
     pub from: u64,

@@ -10,7 +10,7 @@ use crate::flags::Flags;
 use decode80::{Operation, Rotation};
 
 /// The result of an arithmetic, logical or rotating instruction: a byte, and the flags after it.
-#[derive(Clone, Copy, PartialEq, Eq, Debug)]
+#[derive(Clone, Copy, PartialEq, Eq)]
 pub struct Answer {
     /// The byte.
     pub value: u8,

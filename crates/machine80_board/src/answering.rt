@@ -62,7 +62,7 @@ pub(crate) fn note_output(last: &mut Vec<Option<u8>>, output: Output)
 }
 
 /// What a cell answers when it is loaded.
-#[derive(Clone, Copy, Debug, PartialEq, Eq)]
+#[derive(Clone, Copy, PartialEq, Eq)]
 pub(crate) enum CellAnswer {
     /// The byte in memory: no device answers there.
     Memory,

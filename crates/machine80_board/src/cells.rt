@@ -10,7 +10,7 @@ use decode80::{Instr, Operand, Storing};
 use machine80::Registers;
 
 /// The cells that an instruction loads data from, or stores data to.
-#[derive(Clone, Copy, Debug, PartialEq, Eq)]
+#[derive(Clone, Copy, PartialEq, Eq)]
 pub(crate) enum Cells {
     /// None.
     Nowhere,

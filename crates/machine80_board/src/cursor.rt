@@ -8,7 +8,7 @@ ghost use Rattle.machine80_board.specs.Cursor.{IsAt, IsReady, MovesInItem, Moves
 use board80::{ByteList, Bytes, Item};
 
 /// How far a list of answers was given.
-#[derive(Clone, Copy, Debug, PartialEq, Eq)]
+#[derive(Clone, Copy, PartialEq, Eq)]
 pub struct Cursor {
     /// The index of the next item, or the number of items behind the last.
     item: usize,

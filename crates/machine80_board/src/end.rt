@@ -3,7 +3,7 @@
 use machine80::End;
 
 /// How a run on a board ends.
-#[derive(Clone, Copy, Debug, PartialEq, Eq)]
+#[derive(Clone, Copy, PartialEq, Eq)]
 pub enum BoardEnd {
     /// As a run of the machine ends: by HLT, at an empty port, at an output past the limit, at a register-indirect store
     /// outside data, or at a PCHL to none of its declared targets.

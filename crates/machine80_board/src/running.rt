@@ -30,7 +30,7 @@ pub struct BoardRun {
 }
 
 /// How a run ended or was stopped, and after how many steps.
-#[derive(Clone, Copy, Debug, PartialEq, Eq)]
+#[derive(Clone, Copy, PartialEq, Eq)]
 pub(crate) struct Stopped {
     /// How the run ended; `None` if the steps were used up.
     pub end: Option<BoardEnd>,

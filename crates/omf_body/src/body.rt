@@ -23,7 +23,7 @@ pub struct HeaderBody<'a> {
 }
 
 /// A place in a module: a segment, and an offset there.
-#[derive(Clone, Copy, PartialEq, Eq, Debug)]
+#[derive(Clone, Copy, PartialEq, Eq)]
 pub struct Place {
     /// The segment's id.
     pub segment: u8,
@@ -32,7 +32,7 @@ pub struct Place {
 }
 
 /// The body of a module end (04).
-#[derive(Debug, Drop)]
+#[derive(Drop)]
 pub struct EndBody<'a> {
     /// Where the program starts; `None` if the module isn't a main program.
     pub start: Option<Place>,
@@ -41,7 +41,7 @@ pub struct EndBody<'a> {
 }
 
 /// The body of a content record (06): bytes of a segment.
-#[derive(Debug, Drop)]
+#[derive(Drop)]
 pub struct ContentBody<'a> {
     /// The id of the segment.
     pub segment: u8,

@@ -3,7 +3,7 @@
 use std::marker::Model;
 
 /// Bytes of a record's body, borrowed from the file. A contract sees the list of them.
-#[derive(Debug, Drop)]
+#[derive(Drop)]
 pub struct Bytes<'a> {
     /// The bytes themselves.
     pub bytes: &'a [u8],

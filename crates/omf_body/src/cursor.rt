@@ -8,7 +8,7 @@ use std::marker::Model;
 
 /// Reads a body field by field, from its front. A contract sees the list of the bytes that are
 /// left. After a fault the cursor is unchanged.
-#[derive(Debug, Drop)]
+#[derive(Drop)]
 pub struct Cursor<'a> {
     /// The bytes that are left.
     rest: &'a [u8],

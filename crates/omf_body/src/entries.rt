@@ -17,7 +17,7 @@ use std::alloc::AllocError;
 pub const ANY_BYTE: u8 = 3;
 
 /// A segment in a module header record (02).
-#[derive(Clone, Copy, PartialEq, Eq, Debug)]
+#[derive(Clone, Copy, PartialEq, Eq)]
 pub struct SegmentEntry {
     /// The segment's id.
     pub id: u8,
@@ -29,7 +29,7 @@ pub struct SegmentEntry {
 }
 
 /// A common in a named commons record (2E).
-#[derive(Debug, Drop)]
+#[derive(Drop)]
 pub struct CommonEntry<'a> {
     /// The segment id, from 6 to 254.
     pub id: u8,
@@ -38,7 +38,7 @@ pub struct CommonEntry<'a> {
 }
 
 /// A public in a public declarations record (16).
-#[derive(Debug, Drop)]
+#[derive(Drop)]
 pub struct PublicEntry<'a> {
     /// The offset in the record's segment.
     pub offset: u16,
@@ -49,7 +49,7 @@ pub struct PublicEntry<'a> {
 }
 
 /// A name in an external names record (18), which another module declares.
-#[derive(Debug, Drop)]
+#[derive(Drop)]
 pub struct ExternalEntry<'a> {
     /// The external's name.
     pub name: NameBytes<'a>,
@@ -58,14 +58,14 @@ pub struct ExternalEntry<'a> {
 }
 
 /// A reference in a relocation (22) or intersegment references record (24).
-#[derive(Clone, Copy, PartialEq, Eq, Debug)]
+#[derive(Clone, Copy, PartialEq, Eq)]
 pub struct OffsetEntry {
     /// The reference's offset in the segment of the content.
     pub offset: u16,
 }
 
 /// A reference in an external references record (20).
-#[derive(Clone, Copy, PartialEq, Eq, Debug)]
+#[derive(Clone, Copy, PartialEq, Eq)]
 pub struct IndexEntry {
     /// The index of the external among the module's externals, from 0.
     pub index: u16,

@@ -4,7 +4,7 @@ use omf_core::Name;
 use std::marker::Model;
 
 /// A name where it lies in a file: 1 to 255 bytes, each 21h to 7Eh. A contract sees the list of its bytes.
-#[derive(Debug, Drop)]
+#[derive(Drop)]
 pub struct NameBytes<'a> {
     /// The bytes of the name, borrowed from the file.
     bytes: &'a [u8],

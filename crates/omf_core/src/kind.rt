@@ -5,7 +5,7 @@ ghost use Rattle.omf_core.specs.declared.kind.RecordKind.{RecordKind};
 ghost use Rattle.omf_core.specs.Kind.{kind_byte};
 
 /// The kinds of record that the standard has (8080 Object Module Formats, record types).
-#[derive(Clone, Copy, PartialEq, Eq, Debug)]
+#[derive(Clone, Copy, PartialEq, Eq)]
 pub enum RecordKind {
     /// The module's name and segments; the first record of a module.
     ModuleHeader = 0x02,

@@ -33,7 +33,7 @@ pub enum Progress {
 }
 
 /// What the bytes have at the place where a module may begin.
-#[derive(Clone, Copy, Debug)]
+#[derive(Clone, Copy)]
 pub enum Standing {
     /// No whole record: the bytes end before it does.
     CutOff,

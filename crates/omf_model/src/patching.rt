@@ -6,7 +6,7 @@ ghost use Rattle.omf_model.specs.Patches.{with_patches, are_inside, are_apart, i
 use crate::Field;
 
 /// A word, or one of its bytes, that is added to the bytes at an index.
-#[derive(Clone, Copy, Debug, PartialEq, Eq)]
+#[derive(Clone, Copy, PartialEq, Eq)]
 pub struct Patch {
     /// The index of the first byte that is changed.
     pub at: usize,

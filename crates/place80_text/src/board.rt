@@ -17,7 +17,7 @@ use text80::word_digits;
 use thiserror::Error;
 
 /// The memory of a board. A range has the addresses that it contains; it needn't end in memory, and ranges may overlap.
-#[derive(Clone, Copy, Debug)]
+#[derive(Clone, Copy)]
 pub struct Board<'a> {
     /// Memory that is only read.
     pub rom: &'a [Range],

@@ -18,7 +18,7 @@ const LIBRARY_WORDS: &str =
 pub(crate) const OBJECT_WORDS: &str = "docs/FAULTS.md says what to look for there ('Object files')";
 
 /// Why an object file or a library isn't read.
-#[derive(Clone, Copy, Debug)]
+#[derive(Clone, Copy)]
 pub enum FileFault {
     /// A fault of the file's bytes as an object file.
     Module(ModuleFault),

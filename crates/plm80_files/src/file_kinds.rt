@@ -33,7 +33,7 @@ pub const INPUTS_LINE: &str =
     "a line is a port, a blank and bytes without blanks between them, as 02 41FF";
 
 /// What a file seems to be, by how it begins.
-#[derive(Clone, Copy, Debug, PartialEq, Eq)]
+#[derive(Clone, Copy, PartialEq, Eq)]
 pub(crate) enum FileKind {
     Empty,
     ObjectFile,
@@ -49,7 +49,7 @@ pub(crate) enum FileKind {
 }
 
 /// What a file is to be, by its place among the arguments of its command.
-#[derive(Clone, Copy, Debug, PartialEq, Eq)]
+#[derive(Clone, Copy, PartialEq, Eq)]
 pub enum FileRole {
     ObjectFile,
     Image,

@@ -17,7 +17,7 @@ const MODULE_HEADER: u8 = RecordKind::ModuleHeader as u8;
 const END_OF_FILE: u8 = RecordKind::EndOfFile as u8;
 
 /// Words on the bytes of an object file that aren't read: how many there are behind its end record.
-#[derive(Clone, Copy, Debug)]
+#[derive(Clone, Copy)]
 pub struct UnreadBytes<'a> {
     pub path: &'a str,
     pub count: usize,

@@ -7,14 +7,14 @@ use verify80_calls::{Node, Procedure};
 const MOST: u16 = 60;
 
 /// Where a box is.
-#[derive(Clone, Copy, Debug, PartialEq, Eq)]
+#[derive(Clone, Copy, PartialEq, Eq)]
 pub(crate) struct Place {
     pub(crate) column: u16,
     pub(crate) row: u16,
 }
 
 /// A call: the numbers of the caller and of the callee among the nodes.
-#[derive(Clone, Copy, Debug, PartialEq, Eq)]
+#[derive(Clone, Copy, PartialEq, Eq)]
 pub(crate) struct Edge {
     pub(crate) from: usize,
     pub(crate) to: usize,

@@ -12,7 +12,7 @@ use std::alloc::{AllocError, Global};
 use text80::{append_digits, word_digits};
 
 /// Consecutive addresses at which the bytes of an image and of a dump differ.
-#[derive(Clone, Copy, Debug, PartialEq, Eq)]
+#[derive(Clone, Copy, PartialEq, Eq)]
 pub struct Difference {
     /// The first of the addresses.
     pub first: u16,
@@ -21,7 +21,7 @@ pub struct Difference {
 }
 
 /// Where an image and a dump differ: the ranges of addresses, and a text with a line for each.
-#[derive(Debug, Drop)]
+#[derive(Drop)]
 pub struct Comparison {
     /// The ranges of addresses at which the bytes differ, ascending and not adjacent.
     pub ranges: Vec<Difference>,

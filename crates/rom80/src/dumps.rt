@@ -14,7 +14,7 @@ use std::alloc::{AllocError, Global};
 use std::marker::Model;
 
 /// Dumps of read-only memories, each at its address, no two of which have an address in common: the chunks of an image.
-#[derive(Debug, Drop)]
+#[derive(Drop)]
 pub struct Dumps {
     /// The chunks of the dumps, in the order in which these were added.
     chunks: Vec<Chunk>,

@@ -14,7 +14,7 @@ const MODULE_HEADER: u8 = RecordKind::ModuleHeader as u8;
 const CONTROL_Z: u8 = 0x1A;
 
 /// A kind of file that encodes bytes instead of holding them as they are, so that it is no dump.
-#[derive(Clone, Copy, Debug, PartialEq, Eq)]
+#[derive(Clone, Copy, PartialEq, Eq)]
 pub enum DumpKind {
     /// Lines of Intel's hexadecimal format.
     IntelHex,

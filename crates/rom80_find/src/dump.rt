@@ -4,7 +4,7 @@ ghost use Rattle.std.specs.Prelude.{◌≡◌, ◌≤◌, ◌+◌, length};
 ghost use Rattle.rom80_find.specs.Dump.{dump_of, dump_byte};
 
 /// A dump of a read-only memory: the bytes of the addresses from `first` on.
-#[derive(Clone, Copy, Debug)]
+#[derive(Clone, Copy)]
 pub struct Dump<'a> {
     /// The address of the first byte.
     pub first: u16,

@@ -11,7 +11,7 @@ use std::alloc::{AllocError, Global};
 pub const TEXT_LIMIT: usize = 1_048_576;
 
 /// Why [`read_all`] didn't read a source to its end.
-#[derive(Clone, Copy, Debug, PartialEq, Eq)]
+#[derive(Clone, Copy, PartialEq, Eq)]
 pub enum ReadAllFault {
     /// A read of the source failed.
     Read,

@@ -3,7 +3,7 @@
 use frames80::Procedure;
 
 /// The depth of a frame of a procedure, in bytes; negative if the stack has shrunk since its start.
-#[derive(Clone, Copy, Debug)]
+#[derive(Clone, Copy)]
 pub struct Depth {
     /// The procedure.
     pub procedure: Procedure,
@@ -13,7 +13,7 @@ pub struct Depth {
 }
 
 /// A call: the procedure and the address where it stands, the depth of the frame there, and the address that it calls.
-#[derive(Clone, Copy, Debug)]
+#[derive(Clone, Copy)]
 pub struct CallSite {
     /// The procedure that calls.
     pub caller: Procedure,

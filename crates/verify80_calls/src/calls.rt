@@ -13,7 +13,7 @@ use verify80::{ImageCode, ProgramPoint, Vouched};
 use verify80_flow::{Procedure, fitting_tables_cover_walks};
 
 /// A call of a procedure.
-#[derive(Clone, Copy, Debug, PartialEq, Eq)]
+#[derive(Clone, Copy, PartialEq, Eq)]
 pub struct Call {
     /// The address of the call.
     pub at: u16,

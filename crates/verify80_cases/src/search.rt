@@ -31,7 +31,7 @@ pub struct SuggestedCase {
 }
 
 /// A remark on a PCHL that is reached and has no declared targets.
-#[derive(Clone, Copy, Debug, PartialEq, Eq)]
+#[derive(Clone, Copy, PartialEq, Eq)]
 pub enum Note {
     /// The table at `table` is taken to end at `end`, but nothing that is reached shows that it
     /// does.

@@ -21,7 +21,7 @@ const PCHL: u8 = 0xE9;
 pub(crate) const NO_LIMIT: usize = 65_536;
 
 /// What a table consists of.
-#[derive(Clone, Copy, Debug, PartialEq, Eq)]
+#[derive(Clone, Copy, PartialEq, Eq)]
 pub enum TableKind {
     /// Addresses that the PCHL goes to, low byte first.
     Words,
@@ -37,7 +37,7 @@ pub enum TableKind {
 }
 
 /// Where the key of an entry is: before its address, or after it.
-#[derive(Clone, Copy, Debug, PartialEq, Eq)]
+#[derive(Clone, Copy, PartialEq, Eq)]
 pub enum KeyOrder {
     /// The key, and then the address, low byte first.
     KeyFirst,

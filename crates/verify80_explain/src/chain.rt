@@ -18,7 +18,7 @@ use verify80_flow::Procedure;
 use verify80_walks::{Point, Search, Unexplained, are_reached, call_at, is_within};
 
 /// A chain of calls from the main program, and where its last procedure stands.
-#[derive(Debug, Drop)]
+#[derive(Drop)]
 pub struct Chain {
     /// The calls, from the main program's on, each with the bytes that its caller has on the stack
     /// there. Each return address takes two bytes more.
@@ -28,7 +28,7 @@ pub struct Chain {
 }
 
 /// How many bytes a procedure has on the stack at an address.
-#[derive(Clone, Copy, Debug)]
+#[derive(Clone, Copy)]
 pub struct Standing {
     /// The procedure.
     pub procedure: Procedure,

@@ -11,7 +11,7 @@ use std::alloc::Global;
 use verify80::ImageCode;
 
 /// What is taken for granted of a program beyond what the verifier takes, so that its ways go on behind refused instructions.
-#[derive(Debug, Drop)]
+#[derive(Drop)]
 pub struct Conditions {
     /// The address at which the program begins anew, with an empty stack; `None` if it begins at its start.
     pub begins: Option<u16>,

@@ -25,7 +25,7 @@ use verify80_walks::{
 };
 
 /// A refusal, and what shows it.
-#[derive(Debug, Drop)]
+#[derive(Drop)]
 pub struct ShownRefusal {
     /// Why the image is refused.
     pub refusal: Refusal,
@@ -34,7 +34,7 @@ pub struct ShownRefusal {
 }
 
 /// The refusals of points that a search found, and whether they are all.
-#[derive(Debug, Drop)]
+#[derive(Drop)]
 pub struct ShownRefusals {
     /// The refusals by address, those of one address by number, each once.
     pub shown: Vec<ShownRefusal>,
@@ -47,7 +47,7 @@ pub struct ShownRefusals {
 }
 
 /// Refusals of points that walks reach if conditions hold.
-#[derive(Debug, Drop)]
+#[derive(Drop)]
 pub struct FurtherRefusals {
     /// What is taken for granted.
     pub conditions: Conditions,

@@ -3,7 +3,7 @@
 use verify80_walks::{Call, Route};
 
 /// What shows a refusal.
-#[derive(Debug, Drop)]
+#[derive(Drop)]
 pub enum Explanation {
     /// A way whose last point is at the fault.
     Way(Route),

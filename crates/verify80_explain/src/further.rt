@@ -155,16 +155,46 @@ fn show_new<C: Code>(
     ensures { All (IsShown (C.code program.now)) shown.old.items → All (IsShown (C.code program.now)) shown.new.items }
 {
     let mut search = Search::new(alloc);
+    grow_and_show(alloc, program, &mut search, places, left, shown)
+}
+
+/// Grows a search as far as what is left of a limit allows, takes the weight of its points from that, and appends their refusals to `shown`, but for
+/// those at `places`. Answers whether none is left out.
+fn grow_and_show<C: Code>(
+    alloc: Global,
+    program: &C,
+    search: &mut Search,
+    places: &IndexSet<Place>,
+    left: &mut usize,
+    shown: &mut Vec<ShownRefusal>,
+) -> Result<bool, Unexplained>
+    ensures { All (IsShown (C.code program.now)) shown.old.items → All (IsShown (C.code program.now)) shown.new.items }
+{
     let is_whole = search.grow(alloc, program, *left)?;
     *left = left.saturating_sub(search.weight());
+    let are_shown = show_found(alloc, program, search, places, *left, shown)?;
+    Ok(is_whole && are_shown)
+}
+
+/// Appends the refusals of the points that a search has found to `shown`, but for those at `places`. Answers whether none is left out.
+fn show_found<C: Code>(
+    alloc: Global,
+    program: &C,
+    search: &Search,
+    places: &IndexSet<Place>,
+    limit: usize,
+    shown: &mut Vec<ShownRefusal>,
+) -> Result<bool, Unexplained>
+    ensures { All (IsShown (C.code program.now)) shown.old.items → All (IsShown (C.code program.now)) shown.new.items }
+{
     let points = search.points.as_slice();
     let origins = search.origins.as_slice();
-    let faulty = new_among(alloc, find_faulty(alloc, program, points)?, places)?;
+    let found = find_faulty(alloc, program, points)?;
+    let faulty = new_among(alloc, found, places)?;
     if !are_reached(alloc, program, points, origins)? {
         return Ok(false);
     }
-    let are_shown = show_each(alloc, program, points, origins, &faulty, *left, shown)?;
-    Ok(is_whole && are_shown)
+    show_each(alloc, program, points, origins, &faulty, limit, shown)
 }
 
 /// The points of `faulty` whose refusals aren't at `places`.

@@ -27,7 +27,7 @@ use verify80_flow::Refusal;
 use verify80_walks::{Point, Search, Unexplained, are_reached};
 
 /// Where a walk stands, and whether it may go on.
-#[derive(Clone, Copy, Debug)]
+#[derive(Clone, Copy)]
 pub struct ReachedPoint {
     /// The procedure, the address and the depth.
     pub standing: Standing,
@@ -36,7 +36,7 @@ pub struct ReachedPoint {
 }
 
 /// Where walks of a program stand, and the conditions on which they do.
-#[derive(Debug, Drop)]
+#[derive(Drop)]
 pub struct Reach {
     /// Where the program begins: `None` is its start; at the others it begins anew, with an empty stack.
     pub begins: Vec<Option<u16>>,

@@ -32,7 +32,7 @@ pub struct Report {
 
 /// A point that walks reach: an address of a procedure, with the counts of its frame, which are the
 /// same on each walk.
-#[derive(Clone, Copy, Debug, PartialEq, Eq)]
+#[derive(Clone, Copy, PartialEq, Eq)]
 pub struct ProgramPoint {
     /// The procedure.
     pub procedure: Procedure,
@@ -45,7 +45,7 @@ pub struct ProgramPoint {
 }
 
 /// What the analysis finds of a program: the report and the points.
-#[derive(Debug, Drop)]
+#[derive(Drop)]
 pub struct Analysis {
     /// The report.
     pub report: Report,

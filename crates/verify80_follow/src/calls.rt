@@ -22,7 +22,7 @@ use verify80_spans::ByteSpan;
 use verify80_states::{Known, given};
 
 /// A procedure with a table of states that follows it from where it is entered until it returns, wherever the stack is then.
-#[derive(Debug, Drop)]
+#[derive(Drop)]
 pub struct Summary {
     /// The address at which it is entered.
     pub at: u16,

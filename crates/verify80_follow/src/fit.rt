@@ -33,7 +33,7 @@ use verify80_states::{APART, Known, Span, code_bytes, given, known_after, mark_q
 use verify80_stores::{find_data_ends, is_all_data, is_target, pointer_span};
 
 /// A table of states, as a search proposes it.
-#[derive(Debug, Drop)]
+#[derive(Drop)]
 pub struct Table {
     /// The states; the first hint is that of the image's start.
     pub states: Vec<FollowedState>,

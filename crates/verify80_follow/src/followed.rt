@@ -6,7 +6,7 @@ use verify80_states::Known;
 use verify80_stores::OpenStore;
 
 /// What is known of a machine before the instruction at an address.
-#[derive(Debug, Drop)]
+#[derive(Drop)]
 pub struct FollowedState {
     pub at: u16,
     pub known: Known,
@@ -19,7 +19,7 @@ pub struct FollowedState {
 }
 
 /// Where a return, or a PCHL without declared targets, may go.
-#[derive(Clone, Copy, Debug, PartialEq, Eq, PartialOrd, Ord)]
+#[derive(Clone, Copy, PartialEq, Eq, PartialOrd, Ord)]
 pub struct Way {
     /// The address of the return or PCHL.
     pub at: u16,
@@ -27,7 +27,7 @@ pub struct Way {
 }
 
 /// The stores and jumps by register pairs that a table leaves open, each list by address.
-#[derive(Debug, Drop)]
+#[derive(Drop)]
 pub struct Listed {
     /// The stores that may leave data: each with the addresses that it may have.
     pub stores: Vec<OpenStore>,
@@ -36,7 +36,7 @@ pub struct Listed {
 }
 
 /// The runs for which a program is followed.
-#[derive(Clone, Copy, Debug, PartialEq, Eq)]
+#[derive(Clone, Copy, PartialEq, Eq)]
 pub struct RunKind {
     /// Whether SP is at the stack's top when a run begins; else it may be anywhere.
     pub is_set: bool,

@@ -30,7 +30,7 @@ use verify80_states::{Known, code_bytes, is_marked, mark_quiet};
 use verify80_stores::{find_data_ends, pointer_span};
 
 /// A handler with a table of states that follows it.
-#[derive(Debug, Drop)]
+#[derive(Drop)]
 pub struct Handler {
     /// The address at which it is entered.
     pub at: u16,

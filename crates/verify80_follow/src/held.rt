@@ -11,7 +11,7 @@ use decode80::{AffectedFlags, Flow, Instr, Pair, Register, StackPair, Writes};
 use verify80_spans::ByteSpan;
 
 /// What is said of a pair of registers: of PSW, of A and the flags.
-#[derive(Clone, Copy, Debug, PartialEq, Eq)]
+#[derive(Clone, Copy, PartialEq, Eq)]
 pub struct HeldPair {
     /// Whether it is what it was when the handler was entered.
     pub in_place: bool,
@@ -20,7 +20,7 @@ pub struct HeldPair {
 }
 
 /// What is said beside a state's registers and stack.
-#[derive(Clone, Copy, Debug, PartialEq, Eq)]
+#[derive(Clone, Copy, PartialEq, Eq)]
 pub struct Beside {
     /// Whether interrupts may come, by EI and DI.
     pub is_enabled: bool,

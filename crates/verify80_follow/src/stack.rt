@@ -13,7 +13,7 @@ use verify80_spans::ByteSpan;
 use verify80_states::{Known, PairSpan, StackTop, pushed_pair};
 
 /// The stack after an instruction.
-#[derive(Debug, Drop)]
+#[derive(Drop)]
 pub enum StackAfter {
     /// The instruction uses SP before it is set, leaves the stack, or sets SP to what isn't known.
     Refused,
@@ -24,7 +24,7 @@ pub enum StackAfter {
 }
 
 /// The stack's end and length.
-#[derive(Clone, Copy, Debug)]
+#[derive(Clone, Copy)]
 pub struct StackBounds {
     /// The address just above the stack, modulo 65536.
     pub top: u16,

@@ -19,7 +19,7 @@ const MOST_APART: u8 = 32;
 const CELLS: u16 = 8;
 
 /// What a way makes of a state, where it leads.
-#[derive(Debug, Drop)]
+#[derive(Drop)]
 pub(crate) struct Arrival {
     pub state: FollowedState,
     /// Marks of its bytes.

@@ -6,7 +6,7 @@ const STATES: usize = 262_144;
 const WAYS: usize = 3_000_000;
 
 /// How many states may still be kept, and how many ways followed, by the searches that share it.
-#[derive(Clone, Copy, Debug)]
+#[derive(Clone, Copy)]
 pub struct Budget {
     pub(crate) states: usize,
     pub(crate) ways: usize,

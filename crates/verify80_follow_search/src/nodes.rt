@@ -19,7 +19,7 @@ pub(crate) fn place_of(number: usize) -> u32 {
 }
 
 /// What is kept of a state beside it.
-#[derive(Debug, Drop)]
+#[derive(Drop)]
 pub(crate) struct Note {
     /// Marks of its bytes.
     pub marks: Vec<bool>,

@@ -5,7 +5,7 @@ use std::fmt;
 use verify80_follow::Table;
 
 /// Why a search goes on no further.
-#[derive(Clone, Copy, Debug, PartialEq, Eq)]
+#[derive(Clone, Copy, PartialEq, Eq)]
 pub enum StopReason {
     /// A byte of the instruction is outside CODE or past FFFF.
     FetchOutside,
@@ -42,7 +42,7 @@ pub enum StopReason {
 }
 
 /// The first place that isn't known, or at which there are too many states.
-#[derive(Debug, Drop)]
+#[derive(Drop)]
 pub struct Stop {
     pub at: u16,
     pub reason: StopReason,
@@ -108,7 +108,7 @@ impl fmt::Display for Stop {
 }
 
 /// What a search finds.
-#[derive(Debug, Drop)]
+#[derive(Drop)]
 pub enum SearchResult {
     /// A table, which is to be checked.
     Found(Table),
@@ -116,7 +116,7 @@ pub enum SearchResult {
 }
 
 /// Why a state isn't followed.
-#[derive(Clone, Copy, Debug)]
+#[derive(Clone, Copy)]
 pub(crate) enum Unfollowed {
     Stopped(StopReason),
     Memory,

@@ -13,7 +13,7 @@ use verify80_states::{Known, State, entry_at, is_marked};
 const SWEEPS: usize = 32;
 
 /// The bytes of quiet memory that states name.
-#[derive(Clone, Copy, Debug, PartialEq, Eq)]
+#[derive(Clone, Copy, PartialEq, Eq)]
 pub enum Named {
     /// The variables on which a later store, jump by HL or condition depends, as far as the pointers that read them are known.
     Needed,
@@ -24,7 +24,7 @@ pub enum Named {
 }
 
 /// What is needed of a state at an address: these parts of it, and these bytes of memory.
-#[derive(Clone, Copy, Debug, PartialEq, Eq)]
+#[derive(Clone, Copy, PartialEq, Eq)]
 struct Need {
     parts: Units,
     slots: Slots,

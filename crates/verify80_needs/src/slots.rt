@@ -15,7 +15,7 @@ const SLOTS: usize = 8;
 const NOWHERE: u16 = u16::MAX;
 
 /// The addresses of the bytes that are known, or are to be known: one for each place.
-#[derive(Clone, Copy, Debug, PartialEq, Eq)]
+#[derive(Clone, Copy, PartialEq, Eq)]
 pub struct Slots([u16; SLOTS]);
 
 impl Slots {

@@ -6,7 +6,7 @@ use std::array;
 use verify80_states::{ByteSpan, Known, PairSpan, State, Words};
 
 /// A set of parts of a state: a bit for each.
-#[derive(Clone, Copy, Debug, PartialEq, Eq)]
+#[derive(Clone, Copy, PartialEq, Eq)]
 pub struct Units(u32);
 
 bitflags! {

@@ -18,7 +18,7 @@ const LATE_WAYS: usize = 1_000_000;
 const ALL_WAYS: usize = 4_000_000;
 
 /// What the search for a program's first table noted, by address: 65,536 places each.
-#[derive(Debug, Drop)]
+#[derive(Drop)]
 pub struct SearchNotes {
     /// Whether states were joined there, since there were too many.
     pub joined: Vec<bool>,
@@ -27,7 +27,7 @@ pub struct SearchNotes {
 }
 
 /// The search for tables of one program.
-#[derive(Debug, Drop)]
+#[derive(Drop)]
 pub struct Search {
     /// How many ways may still be followed.
     left: usize,

@@ -6,7 +6,7 @@ ghost use Rattle.verify80_spans.specs.Span.{carry_span, operated, rotated};
 use decode80::{Operation, Rotation};
 
 /// The bytes from a first to a last one, both among them: what a register may hold.
-#[derive(Clone, Copy, Debug, PartialEq, Eq)]
+#[derive(Clone, Copy, PartialEq, Eq)]
 pub struct ByteSpan {
     pub first: u8,
     pub last: u8,

@@ -3,7 +3,7 @@
 use crate::byte_span::ByteSpan;
 
 /// The words from a first to a last one, both among them.
-#[derive(Clone, Copy, Debug, PartialEq, Eq)]
+#[derive(Clone, Copy, PartialEq, Eq)]
 pub struct Span {
     pub first: u16,
     pub last: u16,

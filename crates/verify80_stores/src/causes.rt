@@ -19,7 +19,7 @@ use verify80_proposals::{Groups, ReachedProgram, SearchNotes};
 use verify80_states::{code_bytes, entry_at, is_marked, is_quiet, mark_quiet};
 
 /// The pair by which an open store or jump goes.
-#[derive(Clone, Copy, Debug, PartialEq, Eq)]
+#[derive(Clone, Copy, PartialEq, Eq)]
 pub struct Pointer {
     /// The address of the store or jump.
     pub at: u16,
@@ -27,7 +27,7 @@ pub struct Pointer {
 }
 
 /// What sets a pair.
-#[derive(Clone, Copy, Debug, PartialEq, Eq)]
+#[derive(Clone, Copy, PartialEq, Eq)]
 pub enum Setter {
     /// The instruction at this address, no INX or DCX, sets the pair, or a half of it.
     Instruction(u16),
@@ -40,7 +40,7 @@ pub enum Setter {
 }
 
 /// What sets the pair of an open store or jump.
-#[derive(Clone, Copy, Debug, PartialEq, Eq)]
+#[derive(Clone, Copy, PartialEq, Eq)]
 pub struct Cause {
     pub pointer: Pointer,
     pub setter: Setter,

@@ -10,7 +10,7 @@ use verify80_proposals::{Groups, ReachedProgram, SearchNotes};
 use verify80_states::{entry_at, is_quiet};
 
 /// Why nothing is known of a pair.
-#[derive(Clone, Copy, Debug, PartialEq, Eq)]
+#[derive(Clone, Copy, PartialEq, Eq)]
 pub enum Reason {
     /// The pair comes from the byte of data at this address, which isn't quiet.
     NotQuiet(u16),

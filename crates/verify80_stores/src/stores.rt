@@ -5,7 +5,7 @@ use verify80_proposals::SearchNotes;
 use verify80_states::Span;
 
 /// The register-indirect stores of a program, and its jumps by PCHL, as far as its walks reach them. All lists are by address.
-#[derive(Debug, Drop)]
+#[derive(Drop)]
 pub struct Stores {
     /// The address of each register-indirect store.
     pub addresses: Vec<u16>,
@@ -22,7 +22,7 @@ pub struct Stores {
 }
 
 /// A register-indirect store that isn't shown to stay in data. It may be harmless.
-#[derive(Clone, Copy, Debug, PartialEq, Eq)]
+#[derive(Clone, Copy, PartialEq, Eq)]
 pub struct OpenStore {
     /// The address of the instruction.
     pub at: u16,

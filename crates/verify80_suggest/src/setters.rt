@@ -7,7 +7,7 @@ use decode80::{Instr, Pair, fetch};
 use verify80::ImageCode;
 
 /// An LXI SP.
-#[derive(Clone, Copy, Debug, PartialEq, Eq)]
+#[derive(Clone, Copy, PartialEq, Eq)]
 pub struct Setter {
     /// The address of the instruction.
     pub at: u16,
@@ -16,7 +16,7 @@ pub struct Setter {
 }
 
 /// The first two LXI SP of a program, by address.
-#[derive(Clone, Copy, Debug, PartialEq, Eq)]
+#[derive(Clone, Copy, PartialEq, Eq)]
 pub(crate) struct Setters {
     /// The first one; `None` if there is none.
     pub(crate) first: Option<Setter>,

@@ -7,7 +7,7 @@ use std::alloc::{AllocError, Global};
 use verify80_flow::Procedure;
 
 /// A point that a walk reaches: the procedure, the address, and what is known of its stack and register pairs there.
-#[derive(Debug, Drop)]
+#[derive(Drop)]
 pub struct Point {
     /// The procedure.
     pub procedure: Procedure,

@@ -4,7 +4,7 @@ use crate::point::Point;
 use verify80_flow::Procedure;
 
 /// A call: the procedure that calls, the address of the call, and the address that is called.
-#[derive(Clone, Copy, Debug)]
+#[derive(Clone, Copy)]
 pub struct Call {
     /// The procedure that calls.
     pub caller: Procedure,
@@ -15,7 +15,7 @@ pub struct Call {
 }
 
 /// How a point is reached: the calls that lead from the main program to its procedure, and the way through the procedure.
-#[derive(Debug, Drop)]
+#[derive(Drop)]
 pub struct Route {
     /// The calls, from the main program's on; none for a point of the main program.
     pub calls: Vec<Call>,

@@ -8,7 +8,7 @@ use omf_model::{Content, Field, Fixup, Module, Target};
 
 /// A fixup for the high byte of an address in a segment in which its module's part doesn't start at
 /// a multiple of 256.
-#[derive(Clone, Copy, PartialEq, Eq, Debug)]
+#[derive(Clone, Copy, PartialEq, Eq)]
 pub(crate) struct HighByte {
     /// The index of the fixup's module among those that are linked.
     pub source: usize,

@@ -1,7 +1,7 @@
 //! A byte that waits at a port, a given number of times.
 
 /// A byte that waits at a port, a given number of times.
-#[derive(Clone, Copy, Debug, PartialEq, Eq)]
+#[derive(Clone, Copy, PartialEq, Eq)]
 pub struct Repeated {
     /// The port.
     pub port: u8,

@@ -9,7 +9,7 @@ use crate::{Placed, place_of};
 use omf_model::{Content, Field, Fixup, Module, Target};
 
 /// A fixup as a line shows it: where it is in the module, and the word that it adds.
-#[derive(Clone, Copy, PartialEq, Eq, Debug)]
+#[derive(Clone, Copy, PartialEq, Eq)]
 pub(crate) struct Use {
     /// The id of the segment whose content has the fixup.
     pub segment: u8,

@@ -11,7 +11,7 @@ use std::marker::Model;
 use verify80::{ImageCode, ProcRow, Vouched};
 
 /// A procedure of a program, with its bound and its calls.
-#[derive(Debug, Drop)]
+#[derive(Drop)]
 pub struct Node {
     /// The procedure.
     pub procedure: Procedure,
@@ -24,7 +24,7 @@ pub struct Node {
 }
 
 /// The procedures of a program: the main program first, then the others by entry. A contract sees the list of them.
-#[derive(Debug, Drop)]
+#[derive(Drop)]
 pub struct CallGraph {
     nodes: Vec<Node>,
 }

@@ -8,7 +8,7 @@ use crate::fitting::marks::is_marked;
 use decode80::{Fetched, Flow};
 
 /// Whether the procedure that runs at each address may return, and whether it is known where to: marks by address, 65,536 of each.
-#[derive(Debug, Drop)]
+#[derive(Drop)]
 pub struct CallReturns {
     /// Marks of the addresses from which on a return may still come.
     pub may_return: Vec<bool>,

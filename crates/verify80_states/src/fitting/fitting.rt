@@ -24,7 +24,7 @@ use verify80_spans::{ByteSpan, Span};
 pub const APART: u32 = 0x8000_0000;
 
 /// A state at an address.
-#[derive(Clone, Copy, Debug)]
+#[derive(Clone, Copy)]
 pub struct Placed {
     pub at: u16,
     pub state: State,

@@ -10,7 +10,7 @@ use crate::states::variables::{Variable, is_said};
 use verify80_spans::ByteSpan;
 
 /// What the byte at an address may be.
-#[derive(Clone, Copy, Debug, PartialEq, Eq)]
+#[derive(Clone, Copy, PartialEq, Eq)]
 pub struct Cell {
     pub at: u16,
     pub bytes: ByteSpan,
@@ -75,7 +75,7 @@ impl Cell {
 }
 
 /// What up to eight bytes of memory may be, each at the address that its cell names.
-#[derive(Clone, Copy, Debug, PartialEq, Eq)]
+#[derive(Clone, Copy, PartialEq, Eq)]
 pub struct Cells {
     pub each: [Cell; 8],
 }

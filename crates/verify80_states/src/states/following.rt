@@ -133,7 +133,7 @@ fn after_operation(operation: Operation, itself: bool, byte: ByteSpan, state: Kn
 }
 
 /// What is known of the stack at SP, by whoever follows it.
-#[derive(Clone, Copy, Debug)]
+#[derive(Clone, Copy)]
 pub struct StackTop {
     /// SP; `None` if it isn't known.
     pub pointer: Option<u16>,

@@ -8,7 +8,7 @@ use decode80::{Pair, Register};
 use verify80_spans::{ByteSpan, Outcome};
 
 /// What registers, flags and some bytes of memory may be, before an instruction.
-#[derive(Clone, Copy, Debug, PartialEq, Eq)]
+#[derive(Clone, Copy, PartialEq, Eq)]
 pub struct Known {
     pub a: ByteSpan,
     pub bc: PairSpan,

@@ -10,7 +10,7 @@ use decode80::{Instr, Register, ahead};
 use verify80_spans::{ByteSpan, Span};
 
 /// A byte that an instruction stores: where, and which.
-#[derive(Clone, Copy, Debug)]
+#[derive(Clone, Copy)]
 pub struct StoredByte {
     pub at: Span,
     pub bytes: ByteSpan,

@@ -3,7 +3,7 @@
 use verify80_spans::{ByteSpan, Span};
 
 /// What a pair may be: its words, and its low bytes, which may be fewer than those of the words.
-#[derive(Clone, Copy, Debug, PartialEq, Eq)]
+#[derive(Clone, Copy, PartialEq, Eq)]
 pub struct PairSpan {
     pub words: Span,
     pub low: ByteSpan,

@@ -8,7 +8,7 @@ use decode80::Condition;
 use verify80_spans::ByteSpan;
 
 /// What registers, flags, some bytes of memory and the words on top of the stack may be, before an instruction.
-#[derive(Clone, Copy, Debug, PartialEq, Eq)]
+#[derive(Clone, Copy, PartialEq, Eq)]
 pub struct State {
     pub known: Known,
     pub words: Words,

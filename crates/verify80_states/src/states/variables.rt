@@ -8,7 +8,7 @@ use crate::states::memory_after::StoredByte;
 use verify80_spans::ByteSpan;
 
 /// A byte of quiet memory: whatever is stored where it may be is one of `bytes`.
-#[derive(Clone, Copy, Debug)]
+#[derive(Clone, Copy)]
 pub struct Variable {
     pub at: u16,
     pub bytes: ByteSpan,

@@ -6,7 +6,7 @@ ghost use Rattle.verify80_states.specs.State.{IsWordInside};
 use crate::states::pairs::PairSpan;
 
 /// What the words from the stack pointer on may be, as far as the program has written them.
-#[derive(Clone, Copy, Debug, PartialEq, Eq)]
+#[derive(Clone, Copy, PartialEq, Eq)]
 pub struct Words {
     pub first: Option<PairSpan>,
     pub second: Option<PairSpan>,
