@@ -1,10 +1,8 @@
 -- A jump to the program's start at address 0, where the processor begins.
 -- (ISIS-II User's Guide, LOCATE: the control RESTART0. 8080 Assembly Language Programming Manual: a reset sets the program
--- counter to 0.)
+-- counter to 0; JMP is C3 and the address, its low byte first.)
 use Rattle.std.specs.Prelude.{◌≡◌, ℕ, ◌/◌, ◌%◌, ◌==◌, if◌then◌else◌, Option, Some, option_map, List, [], ◌∷◌, ◌++◌}
 use Rattle.std.specs.Option.{option_or}
-use Rattle.decode80.specs.declared.instr.Instr.TheVariants.{Jmp}
-use Rattle.decode80.specs.Spelling.{spelling}
 use Rattle.omf_model.specs.Segments.{absolute_id}
 use Rattle.omf_model.specs.Modules.{ModuleValue}
 use Rattle.omf_model.specs.ImageByte.{image_byte}
@@ -25,9 +23,9 @@ restart_place = record { id = absolute_id; base = 0; length = 3 }
 abbrev pub restart_range : Range
 restart_range = record { first = 0; length = 3 }
 
--- its chunk: the spelling of a JMP to the start
+-- its chunk: a JMP to the start
 abbrev pub restart_chunk : (start : ℕ) → PlacedBytes
-restart_chunk start = record { address = 0; bytes = spelling (Jmp start) }
+restart_chunk start = record { address = 0; bytes = 0xC3 ∷ start % 256 ∷ start / 256 ∷ [] }
 
 -- the restart with each segment, and each absolute content with the restart
 abbrev pub restart_pairs : ModuleValue → List Placed → List (Placed × Placed)

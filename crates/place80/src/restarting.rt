@@ -14,11 +14,13 @@ use crate::options::Options;
 use crate::overlap::{Pair, first_beside, first_of_contents};
 use crate::place_fault::PlaceFault;
 use crate::placed_segments::Placed;
-use decode80::{Instr, encode};
 use image80::{Chunk, Image, Range, Regions};
 use omf_core::segment_id::ABSOLUTE;
 use omf_module::Module;
 use std::alloc::{AllocError, Global};
+
+/// The opcode of JMP.
+const JMP: u8 = 0xC3;
 
 /// Locates a program as `locate` does, with a JMP to its start at address 0, where the processor begins: the control
 /// RESTART0 of LOCATE. The image's memory is that of `locate` but for these three bytes, which are code, too. The
@@ -98,10 +100,10 @@ fn with_restart(alloc: Global, image: Image, segments: &[Placed]) -> Result<Imag
 fn chunk_of_restart(alloc: Global, start: u16) -> Result<Chunk, AllocError>
     ensures { IfOk result (λ chunk. chunk ≡ restart_chunk start) }
 {
-    let (bytes, _) = encode(Instr::Jmp(start));
+    let [low, high] = start.to_le_bytes();
     Ok(Chunk {
         address: 0,
-        bytes: Vec::from_slice(alloc, &bytes)?,
+        bytes: Vec::from_slice(alloc, &[JMP, low, high])?,
     })
 }
 

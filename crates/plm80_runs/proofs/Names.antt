@@ -26,7 +26,9 @@ pub use Rattle.plm80_names.specs.Fronts.{IsFirstOf, LeavesFront}
 pub use Rattle.plm80_names.specs.Verdict.{AnswersVerdict, IsVerdict, IsAccepted, IsRefusal}
 pub use Rattle.plm80_runs.specs.Arguments.{dump_path, run_paths}
 pub use Rattle.plm80_runs.specs.InputWords.{AnswersWords, IsFirstBadWord, IsGoodWord, IsInputsFile, inputs_named}
-pub use Rattle.plm80_runs.specs.Running.{CountsRun, AnswersRun, AnswersSession, AnswersTexts, CoversFiles, EndsRun, RunsFiles, TracesFiles, TracesFilesInPart, TracesPart, TracesRun, WatchesRun, last_lines, run_files, session_status, start_of, texts_of, ending, trace_ending, trace_lines, with_memory, IsRunRead}
+pub use Rattle.plm80_runs.specs.Running.{CountsRun, AnswersRun, AnswersSession, AnswersTexts, CoversFiles, EndsRun, RunsFiles, TracesFiles}
+pub use Rattle.plm80_runs.specs.Running.{TracesFilesInPart, TracesPart, TracesRun, WatchesRun, last_lines, run_files, session_status, start_of}
+pub use Rattle.plm80_runs.specs.Running.{texts_of, ending, trace_ending, trace_lines, with_memory, IsRunRead}
 pub use Rattle.plm80_runs.specs.declared.cover.Covered.{Covered}
 pub use Rattle.plm80_runs.specs.declared.run_arguments.RunFiles.{RunFiles}
 pub use Rattle.std.proofs.Common.{ap, append-nil, arith, get_or, inl, inr, refl, rules, subst, sym, ◌∙◌}
@@ -40,5 +42,6 @@ pub use Rattle.std.proofs.lemmas.Result.{IfErr-weaker, IfOk-weaker}
 pub use Rattle.std.specs.Borrow.{Bor}
 pub use Rattle.std.specs.Io.KnownBytes.{Appends}
 pub use Rattle.std.specs.List.{flat_map}
-pub use Rattle.std.specs.Prelude.{All, Err, IfErr, IfOk, IfSome, List, None, Ok, Option, Result, Some, [], drop, false, length, map, min, suc, take, true, unwrap_or, zero, ℕ, ◌++◌, ◌+◌, ◌-◌, ◌<◌, ◌∷◌, ◌≡◌, ◌≢◌, ◌≤◌, IsOkAnd}
+pub use Rattle.std.specs.Prelude.{All, Err, IfErr, IfOk, IfSome, List, None, Ok, Option, Result, Some, [], drop, false, length, map, min, suc, take}
+pub use Rattle.std.specs.Prelude.{true, unwrap_or, zero, ℕ, ◌++◌, ◌+◌, ◌-◌, ◌<◌, ◌∷◌, ◌≡◌, ◌≢◌, ◌≤◌, IsOkAnd}
 pub use Rattle.verify80.specs.Vouched.{Voucher}

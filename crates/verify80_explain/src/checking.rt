@@ -10,7 +10,7 @@ use indexmap::IndexMap;
 use std::alloc::{AllocError, Global};
 use verify80::ImageCode;
 
-/// Those of the conditions that are of the program. `calls` names an address at which each procedure is called; nothing rests on it.
+/// The conditions that are of the program. `calls` names an address at which each procedure is called; nothing rests on it.
 pub(crate) fn keep_conditions(
     alloc: Global,
     code: &ImageCode,
@@ -36,7 +36,7 @@ fn keep_begin(code: &ImageCode, begin: Option<u16>) -> Option<u16>
     if may_begin(code, begin) { begin } else { None }
 }
 
-/// Those of the addresses at which the program may begin; `None` is its start.
+/// The addresses at which the program may begin; `None` is its start.
 pub(crate) fn keep_begins(
     alloc: Global,
     code: &ImageCode,
@@ -53,7 +53,7 @@ pub(crate) fn keep_begins(
     Ok(kept)
 }
 
-/// Those of the addresses whose instructions may be passed over.
+/// The addresses whose instructions may be passed over.
 fn keep_passable(alloc: Global, code: &ImageCode, passed: &[u16]) -> Result<Vec<u16>, AllocError>
     ensures { IfOk result (λ kept. All (IsPassable (code_of code.now)) kept.items) }
 {
@@ -66,7 +66,7 @@ fn keep_passable(alloc: Global, code: &ImageCode, passed: &[u16]) -> Result<Vec<
     Ok(kept)
 }
 
-/// Those of the entries that are called where `calls` says.
+/// The entries that are called where `calls` says.
 fn keep_called(
     alloc: Global,
     code: &ImageCode,

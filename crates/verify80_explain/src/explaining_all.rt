@@ -17,6 +17,7 @@ use crate::place::Place;
 use crate::sought::{Kind, Sought, show_reached_fault};
 use frames80::{Code, FrameFault, LookFault};
 use image80::Image;
+use indexmap::IndexSet;
 use std::alloc::{AllocError, Global};
 use verify80::ImageCode;
 use verify80_flow::Refusal;
@@ -117,23 +118,25 @@ fn show_reached<C: Code>(
 ) -> Result<bool, AllocError>
     ensures { All (IsShown (C.code program.now)) shown.old.items → All (IsShown (C.code program.now)) shown.new.items }
 {
+    let places = IndexSet::new(alloc);
     let mut search = Search::new(alloc);
-    grow_and_show(alloc, program, &mut search, limit, shown)
+    grow_and_show(alloc, program, &mut search, &places, limit, shown)
 }
 
 /// Lets a search grow up to the limit and appends the refusals of its points to `shown`, each with a
-/// way that shows it; answers whether none is left out.
+/// way that shows it, but for those at `places`; answers whether none is left out.
 fn grow_and_show<C: Code>(
     alloc: Global,
     program: &C,
     search: &mut Search,
+    places: &IndexSet<Place>,
     limit: usize,
     shown: &mut Vec<ShownRefusal>,
 ) -> Result<bool, AllocError>
     ensures { All (IsShown (C.code program.now)) shown.old.items → All (IsShown (C.code program.now)) shown.new.items }
 {
     let is_whole = is_reached_within(search.grow(alloc, program, limit))?;
-    let are_shown = is_reached_within(show_all(alloc, program, search, limit, shown))?;
+    let are_shown = is_reached_within(show_found(alloc, program, search, places, limit, shown))?;
     Ok(is_whole && are_shown)
 }
 
@@ -146,12 +149,13 @@ pub(crate) fn is_reached_within(reached: Result<bool, Unexplained>) -> Result<bo
     }
 }
 
-/// Appends each refusal of the points of a search to `shown`, with a way that shows it; answers
-/// whether none is left out.
-fn show_all<C: Code>(
+/// Appends the refusals of the points that a search has found to `shown`, each with a way that shows
+/// it, but for those at `places`; answers whether none is left out.
+pub(crate) fn show_found<C: Code>(
     alloc: Global,
     program: &C,
     search: &Search,
+    places: &IndexSet<Place>,
     limit: usize,
     shown: &mut Vec<ShownRefusal>,
 ) -> Result<bool, Unexplained>
@@ -159,17 +163,33 @@ fn show_all<C: Code>(
 {
     let points = search.points.as_slice();
     let origins = search.origins.as_slice();
-    let faulty = find_faulty(alloc, program, points)?;
+    let found = find_faulty(alloc, program, points)?;
+    let faulty = new_among(alloc, found, places)?;
     if !are_reached(alloc, program, points, origins)? {
         return Ok(false);
     }
     show_each(alloc, program, points, origins, &faulty, limit, shown)
 }
 
+/// The points of `faulty` whose refusals aren't at `places`.
+pub(crate) fn new_among(
+    alloc: Global,
+    faulty: Vec<FaultyPoint>,
+    places: &IndexSet<Place>,
+) -> Result<Vec<FaultyPoint>, AllocError> {
+    let mut new = Vec::new(alloc);
+    for found in faulty.as_slice() {
+        if !places.contains(&Place::of(found.refusal)) {
+            new.push(*found)?;
+        }
+    }
+    Ok(new)
+}
+
 /// Appends the refusals of these points to `shown`, each with a way that shows it, until the ways
 /// weigh more than the limit; answers whether none is left out. Walks must reach all `points`, and
 /// each must come from where its entry of `origins` says.
-pub(crate) fn show_each<C: Code>(
+fn show_each<C: Code>(
     alloc: Global,
     program: &C,
     points: &[Point],

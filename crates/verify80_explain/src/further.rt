@@ -10,7 +10,7 @@ ghost use Rattle.verify80_explain.specs.Shows.{IsShown};
 use crate::checking::{called_at, keep_conditions, may_begin};
 use crate::conditions::{ConditionalCode, Conditions};
 use crate::explaining_all::{
-    FaultyPoint, FurtherRefusals, ShownRefusal, find_faulty, show_each, sort_shown,
+    FurtherRefusals, ShownRefusal, find_faulty, new_among, show_found, sort_shown,
 };
 use crate::place::Place;
 use frames80::{Code, Effect, FrameFault, LookFault, effect_of};
@@ -18,7 +18,7 @@ use indexmap::{IndexMap, IndexSet};
 use std::alloc::{AllocError, Global};
 use verify80::ImageCode;
 use verify80_flow::Procedure;
-use verify80_walks::{Looked, Origin, Search, Unexplained, are_reached, look_at};
+use verify80_walks::{Looked, Origin, Search, Unexplained, look_at};
 
 /// How many conditions of each kind are tried at most.
 const MOST_CONDITIONS: usize = 256;
@@ -155,12 +155,12 @@ fn show_new<C: Code>(
     ensures { All (IsShown (C.code program.now)) shown.old.items → All (IsShown (C.code program.now)) shown.new.items }
 {
     let mut search = Search::new(alloc);
-    grow_and_show(alloc, program, &mut search, places, left, shown)
+    grow_and_show_new(alloc, program, &mut search, places, left, shown)
 }
 
-/// Grows a search as far as what is left of a limit allows, takes the weight of its points from that, and appends their refusals to `shown`, but for
-/// those at `places`. Answers whether none is left out.
-fn grow_and_show<C: Code>(
+/// Lets a search grow as far as what is left of a limit allows, takes the weight of its points from that, and appends their refusals to
+/// `shown`, but for those at `places`. Answers whether none is left out.
+fn grow_and_show_new<C: Code>(
     alloc: Global,
     program: &C,
     search: &mut Search,
@@ -174,42 +174,6 @@ fn grow_and_show<C: Code>(
     *left = left.saturating_sub(search.weight());
     let are_shown = show_found(alloc, program, search, places, *left, shown)?;
     Ok(is_whole && are_shown)
-}
-
-/// Appends the refusals of the points that a search has found to `shown`, but for those at `places`. Answers whether none is left out.
-fn show_found<C: Code>(
-    alloc: Global,
-    program: &C,
-    search: &Search,
-    places: &IndexSet<Place>,
-    limit: usize,
-    shown: &mut Vec<ShownRefusal>,
-) -> Result<bool, Unexplained>
-    ensures { All (IsShown (C.code program.now)) shown.old.items → All (IsShown (C.code program.now)) shown.new.items }
-{
-    let points = search.points.as_slice();
-    let origins = search.origins.as_slice();
-    let found = find_faulty(alloc, program, points)?;
-    let faulty = new_among(alloc, found, places)?;
-    if !are_reached(alloc, program, points, origins)? {
-        return Ok(false);
-    }
-    show_each(alloc, program, points, origins, &faulty, limit, shown)
-}
-
-/// The points of `faulty` whose refusals aren't at `places`.
-fn new_among(
-    alloc: Global,
-    faulty: Vec<FaultyPoint>,
-    places: &IndexSet<Place>,
-) -> Result<Vec<FaultyPoint>, AllocError> {
-    let mut new = Vec::new(alloc);
-    for found in faulty.as_slice() {
-        if !places.contains(&Place::of(found.refusal)) {
-            new.push(*found)?;
-        }
-    }
-    Ok(new)
 }
 
 impl<'a, 'b> Conditioning<'a, 'b> {

@@ -1,6 +1,6 @@
 //! All that walks of an image's program reach, on conditions.
 
-ghost use Rattle.std.specs.Prelude.{◌≡◌, ℕ, List, Option, All, IfOk, IfSome, OnOk, Some};
+ghost use Rattle.std.specs.Prelude.{◌≡◌, ℕ, List, Option, All, IfOk, IfSome, OnOk};
 ghost use Rattle.frames80.specs.Code.{Code as CodeSeen};
 ghost use Rattle.frames80.specs.Procedures.{slot_of};
 ghost use Rattle.std.specs.List.{filter_map};

@@ -37,7 +37,8 @@ use Rattle.verify80_follow.specs.Live.{enable_after, entering, executed, interru
 use Rattle.verify80_follow.proofs.{FetchLemmas.anywhere_of, FetchLemmas.fetched_here, FetchLemmas.inside_of, GroundLemmas.Ground, RelativeLemmas.fits_more, RelativeLemmas.moved}
 use Rattle.verify80_follow.proofs.CallLemmas.{Knows as KnowsCalls, begun as begun_calls, disturbs as disturbs_calls, executes as executes_calls}
 use Rattle.verify80_follow.proofs.CallLemmas.{in_main, keeps as keeps_calls, ready as ready_calls, stands as stands_calls, wakes as wakes_calls}
-use Rattle.verify80_follow.proofs.PartLemmas.{executes_moved, into_back, into_bytes, into_stack, into_whole, off_part, off_stack, part_below, part_inside, regions_below, same_ok, stacked_within, stands_at, two_above}
+use Rattle.verify80_follow.proofs.PartLemmas.{executes_moved, into_back, into_bytes, into_stack, into_whole, off_part, off_stack, part_below}
+use Rattle.verify80_follow.proofs.PartLemmas.{part_inside, regions_below, same_ok, stacked_within, stands_at, two_above}
 use Rattle.verify80_follow.specs.StepLaws.{StepLaws}
 use Rattle.verify80_follow.proofs.FollowLemmas.{disturbs as disturbs_table, enters as enters_table, executes_found, goes_on}
 use Rattle.verify80_follow.proofs.FollowLemmas.{keeps as keeps_table, leaves, nobody, one_of, points, same_some, stays_inside, touches_stack}

@@ -14,7 +14,8 @@ use Rattle.verify80_states.specs.{Known.IsQuietKnown, Known.nothing_known, Steps
 use Rattle.verify80_stores.specs.Opening.{pointer_span}
 use Rattle.verify80_follow.specs.declared.handling.Handler.{Handler}
 use Rattle.verify80_follow.specs.declared.{followed.FollowedState.FollowedState, followed.Listed.Listed, followed.Way.Way, held.Beside.Beside, held.HeldPair.HeldPair, stack.StackBounds.StackBounds}
-use Rattle.verify80_follow.specs.{Follows.Fitting, Follows.Has, Follows.IsExecuted, Follows.StateFollows, Follows.Ways, Follows.entered_stack, Follows.stack_of, Follows.uses_pointer, Follows.fitting, Follows.ways_of, Held.count_of, Held.nothing_beside}
+use Rattle.verify80_follow.specs.{Follows.Fitting, Follows.Has, Follows.IsExecuted, Follows.StateFollows, Follows.Ways, Follows.entered_stack}
+use Rattle.verify80_follow.specs.{Follows.stack_of, Follows.uses_pointer, Follows.fitting, Follows.ways_of, Held.count_of, Held.nothing_beside}
 
 -- an image with another stack, of which a handler has a part
 abbrev pub on_stack : Located → Range → Located

@@ -2,7 +2,8 @@
 -- Microcomputer Systems User's Manual, chapter 2: an interrupt is taken behind the instruction that is executed, or wakes HLT; it disables interrupts,
 -- pushes the program counter and goes to its handler, by RST or CALL; EI enables them behind the next instruction. That a handler is over when SP is what it
 -- was, or is set by LXI, is this project's own.)
-use Rattle.std.specs.Prelude.{◌≡◌, ◌≢◌, ◌⊎◌, ◌≤◌, ◌<◌, ◌+◌, ◌||◌, ◌&&◌, ◌++◌, ◌∷◌, [], ℕ, ◌/◌, ◌%◌, Bool, true, false, slice_index, List, Option, None, Some, All, Contains, nat_eq, length, if◌then◌else◌}
+use Rattle.std.specs.Prelude.{◌≡◌, ◌≢◌, ◌⊎◌, ◌≤◌, ◌<◌, ◌+◌, ◌||◌, ◌&&◌, ◌++◌, ◌∷◌, [], ℕ, ◌/◌, ◌%◌, Bool, true, false, slice_index, List, Option}
+use Rattle.std.specs.Prelude.{None, Some, All, Contains, nat_eq, length, if◌then◌else◌}
 use Rattle.std.specs.List.{flat_map}
 use Rattle.image80.specs.declared.range.Range.{Range}
 use Rattle.decode80.specs.{Fetch.behind, Fetch.direct_bytes, declared.fetching.Fetched.Fetched, declared.instr.Instr.Instr}

@@ -41,7 +41,9 @@ impl Outcome {
 
 impl ByteSpan {
     ghost use Rattle.std.specs.Prelude.{◌≡◌, ◌↔◌, true};
-    ghost use Rattle.verify80_spans.specs.Span.{bytes_between, byte_alone, is_byte_alone, meet_bytes, next_byte, previous_byte, sum_of, difference_of, and_of, or_of, exclusive_or_of, doubled, complemented, zero_of, sign_of, only, without, below, from, IsByteInside};
+    ghost use Rattle.verify80_spans.specs.Span.{bytes_between, byte_alone, is_byte_alone, meet_bytes, next_byte, previous_byte, sum_of};
+    ghost use Rattle.verify80_spans.specs.Span.{difference_of, and_of, or_of, exclusive_or_of, doubled, complemented, zero_of, sign_of, only};
+    ghost use Rattle.verify80_spans.specs.Span.{without, below, from, IsByteInside};
 
     /// The span of all bytes.
     pub const ANY: ByteSpan = ByteSpan {

@@ -1,4 +1,4 @@
-use Rattle.std.proofs.Common.{rules, ◌≡◌}
+use Rattle.std.proofs.Common.{rules}
 use Rattle.verify80_explain.proofs.reaching.reached_point.Goals as goal
 
 pub returns : goal.returns
