@@ -10,6 +10,7 @@
 //! | Item | What it is |
 //! |---|---|
 //! | [`Search`] | proposes one table after the other, within the ways that are left to it |
+//! | [`TableKind`], [`TableMemory`], [`TABLE_KINDS`] | which table is proposed: whether calls are distinguished, and what is named of memory |
 //! | [`SearchNotes`] | where states are joined, since there are too many, and which conditions none decides |
 //! | [`Proposal`] | a table of states, and its hints |
 //! | [`ReachedProgram`], [`mark`] | the program that they are proposed for; marks an address |
@@ -24,5 +25,5 @@ mod search;
 
 pub use groups::Groups;
 pub use proposing::Proposal;
-pub use search::{Search, SearchNotes};
+pub use search::{Search, SearchNotes, TABLE_KINDS, TableKind, TableMemory};
 pub use verify80_needs::{ReachedProgram, mark};

@@ -7,16 +7,13 @@ use decode80::{Fetched, Flow, Instr, Operand, Operation};
 use std::alloc::{AllocError, Global};
 use verify80_needs::ReachedProgram;
 use verify80_spans::ByteSpan;
-use verify80_states::{APART, CallReturns, Known, Placed, State, Variable, stored_bytes};
+use verify80_states::{APART, CallReturns, Known, Placed, State, StateTable, stored_bytes};
 
-/// A table of states, for each of their ways a place of the table, and the returns and variables by which it was made. The first hint is
-/// that of the start.
+/// A table of states, with the returns and variables by which it was made.
 #[derive(Drop)]
 pub struct Proposal {
-    pub table: Vec<Placed>,
-    pub hints: Vec<u32>,
-    pub returns: CallReturns,
-    pub variables: Vec<Variable>,
+    /// The table, which may not fit.
+    pub table: StateTable,
     /// What was noted of the search; `None` if there were too many states everywhere.
     pub notes: Option<SearchNotes>,
 }
@@ -173,13 +170,13 @@ impl Nodes<'_> {
         returns: CallReturns,
     ) -> Result<Proposal, AllocError> {
         let notes = self.notes(alloc)?;
-        let mut table = Vec::new(alloc);
+        let mut states = Vec::new(alloc);
         let mut places = vec![in alloc; NOWHERE; self.nodes.len()]?;
         for (number, node) in self.nodes.iter().enumerate().rev() {
             let mut place = places.get(node.taken_by as usize).copied();
             if node.taken_by == place_of(number) {
-                place = Some(place_of(table.len()));
-                table.push(node.placed)?;
+                place = Some(place_of(states.len()));
+                states.push(node.placed)?;
             }
             if let (Some(of_number), Some(place)) = (places.get_mut(number), place) {
                 *of_number = place;
@@ -190,13 +187,13 @@ impl Nodes<'_> {
                 *hint = *place;
             }
         }
-        Ok(Proposal {
-            table,
+        let table = StateTable {
+            states,
             variables: Vec::from_slice(alloc, self.variables.list())?,
             hints: self.hints,
             returns,
-            notes,
-        })
+        };
+        Ok(Proposal { table, notes })
     }
 
     /// What was noted of the search; `None` if each address had one state in the end.

@@ -17,6 +17,64 @@ const LATE_WAYS: usize = 1_000_000;
 /// How many ways are followed for all tables of a program, at most.
 const ALL_WAYS: usize = 4_000_000;
 
+/// What a table names of memory.
+#[derive(Clone, Copy)]
+pub enum TableMemory {
+    /// The quiet bytes on which a later store, jump by HL or condition depends.
+    Needed,
+    /// None, as if no address were quiet.
+    Nothing,
+    /// Those that the next instruction reads or stores; what is known of the others is known by variables.
+    Variables,
+    /// The quiet bytes that are read later.
+    Read,
+}
+
+/// Which table is proposed.
+#[derive(Clone, Copy)]
+pub struct TableKind {
+    /// Whether calls are distinguished, by what a procedure's callers know.
+    pub distinguishes_calls: bool,
+    /// What the table names of memory.
+    pub memory: TableMemory,
+}
+
+/// The kinds of tables, in the order in which they are tried.
+pub const TABLE_KINDS: [TableKind; 8] = [
+    TableKind {
+        distinguishes_calls: true,
+        memory: TableMemory::Needed,
+    },
+    TableKind {
+        distinguishes_calls: false,
+        memory: TableMemory::Needed,
+    },
+    TableKind {
+        distinguishes_calls: true,
+        memory: TableMemory::Nothing,
+    },
+    TableKind {
+        distinguishes_calls: false,
+        memory: TableMemory::Nothing,
+    },
+    TableKind {
+        distinguishes_calls: true,
+        memory: TableMemory::Variables,
+    },
+    TableKind {
+        distinguishes_calls: false,
+        memory: TableMemory::Variables,
+    },
+    TableKind {
+        distinguishes_calls: true,
+        memory: TableMemory::Read,
+    },
+    TableKind {
+        distinguishes_calls: false,
+        memory: TableMemory::Read,
+    },
+];
+
 /// What the search for a program's first table noted, by address: 65,536 places each.
 #[derive(Drop)]
 pub struct SearchNotes {
@@ -49,9 +107,8 @@ impl Search {
         self.notes
     }
 
-    /// The table with a number from 0 to 7: 0 with calls distinguished, 1 with calls joined, 2 and 3 these two as if no address were
-    /// quiet, 4 and 5 these two with variables, 6 and 7 these two with all bytes of memory that are read later. `None` if too many ways
-    /// would have to be followed; for 0, 2, 4 and 6 also if no calls can be distinguished; for 2 to 7 also if no address is quiet.
+    /// A table of a kind. `None` if too many ways would have to be followed; if calls are to be distinguished and none can be; and if no
+    /// address is quiet, unless the memory is what is needed.
     ///
     /// # Errors
     /// `AllocError` only if memory runs out.
@@ -60,25 +117,25 @@ impl Search {
         alloc: Global,
         program: ReachedProgram<'_>,
         groups: &Groups,
-        number: usize,
+        kind: TableKind,
     ) -> Result<Option<Proposal>, AllocError> {
         let unquiet = ReachedProgram {
             quiet: &[],
             ..program
         };
-        let (program, memory) = match number {
-            0 | 1 => (program, Named::Needed),
+        let (program, memory) = match kind.memory {
+            TableMemory::Needed => (program, Named::Needed),
             _ if !program.quiet.contains(&true) => return Ok(None),
-            2 | 3 => (unquiet, Named::Needed),
-            4 | 5 => (program, Named::Next),
-            _ => (program, Named::Read),
+            TableMemory::Nothing => (unquiet, Named::Needed),
+            TableMemory::Variables => (program, Named::Next),
+            TableMemory::Read => (program, Named::Read),
         };
-        let mut found = if number % 2 == 0 {
+        let mut found = if kind.distinguishes_calls {
             self.propose_distinguished(alloc, program, groups, memory)?
         } else {
             self.propose_joined(alloc, program, groups, memory)?
         };
-        if number < 2 && self.notes.is_none() {
+        if matches!(kind.memory, TableMemory::Needed) && self.notes.is_none() {
             if let Some(proposal) = &mut found {
                 self.notes = proposal.notes.take();
             }
@@ -112,7 +169,7 @@ impl Search {
             let Some(proposal) = found else {
                 break;
             };
-            if !groups.take_marks(program, &proposal.table, &mut knows) {
+            if !groups.take_marks(program, &proposal.table.states, &mut knows) {
                 return Ok(Some(proposal));
             }
         }

@@ -11,7 +11,7 @@ mod reached;
 pub use calls::CallReturns;
 pub use code::code_bytes;
 pub use empty_table::anything;
-pub use fitting::{APART, Placed, fits};
+pub use fitting::{APART, Placed, StateTable};
 pub use laws::fitting_states_hold;
 pub use marks::{entry_at, is_marked};
 pub use reached::targets_at;

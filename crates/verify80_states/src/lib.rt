@@ -12,10 +12,9 @@
 //! | [`state_after`] | the same of a state |
 //! | [`stored_bytes`], [`StoredByte`] | the bytes that an instruction stores |
 //! | [`given`] | what a condition says of them |
-//! | [`Placed`] | a state at an address: a table is a list of these |
+//! | [`Placed`], [`StateTable`] | a state at an address; a table of these, with what it says of returns and variables, and whether it fits an image |
 //! | [`APART`] | the first hint of states that tell A's bytes apart |
 //! | [`CallReturns`] | whether the procedure at each address may still return, and where to |
-//! | [`fits`] | whether a table fits an image |
 //! | [`mark_quiet`], [`is_quiet`], [`first_outside_data`] | the quiet addresses of data: those of some ranges |
 //! | [`code_bytes`] | the bytes of an image's code, by address |
 //! | [`anything`] | a table that fits each image |
@@ -31,7 +30,7 @@ mod states;
 
 pub use bytes::bytes_stay_bytes;
 pub use fitting::{
-    APART, CallReturns, Placed, anything, code_bytes, entry_at, fits, fitting_states_hold,
+    APART, CallReturns, Placed, StateTable, anything, code_bytes, entry_at, fitting_states_hold,
     is_marked, targets_at,
 };
 pub use quiet::{first_outside_data, is_quiet, mark_quiet};

@@ -12,11 +12,8 @@ use decode80::Fetched;
 use image80::{Image, Range};
 use std::alloc::{AllocError, Global};
 use verify80::ProcRow;
-use verify80_proposals::{Groups, Proposal, ReachedProgram, Search};
-use verify80_states::{Placed, anything, code_bytes, fits, mark_quiet};
-
-/// How many tables are tried.
-const TABLES: usize = 8;
+use verify80_proposals::{Groups, Proposal, ReachedProgram, Search, TABLE_KINDS};
+use verify80_states::{Placed, anything, code_bytes, mark_quiet};
 
 /// What is shown of a program, in whose quiet ranges of data nobody but it writes: by address whether each table leaves the store or jump
 /// there open, and the words that a pair may be, if the instruction stores by it.
@@ -45,9 +42,9 @@ pub(crate) fn show(
     let groups = Groups::new(alloc, program, rows)?;
     let is_searched = has_any(reached);
     let mut shown = None;
-    for number in 0..TABLES {
+    for kind in TABLE_KINDS {
         if is_searched && is_open(&shown) {
-            let found = search.propose(alloc, program, &groups, number)?;
+            let found = search.propose(alloc, program, &groups, kind)?;
             shown = show_more(alloc, image, reached, quiet, &code, &marks, found, shown)?;
         }
     }
@@ -92,19 +89,10 @@ fn show_more(
     let Some(found) = found else {
         return Ok(shown);
     };
-    if !fits(
-        image,
-        &found.table,
-        &found.hints,
-        &found.returns,
-        &found.variables,
-        code,
-        reached,
-        marks,
-    ) {
+    if !found.table.fits(image, code, reached, marks) {
         return Ok(shown);
     }
-    Ok(Some(show_with(alloc, image, reached, quiet, &found.table, shown)?))
+    Ok(Some(show_with(alloc, image, reached, quiet, &found.table.states, shown)?))
 }
 
 /// What is shown with a table that fits.

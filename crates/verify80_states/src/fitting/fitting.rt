@@ -32,6 +32,50 @@ pub struct Placed {
     pub hint: u32,
 }
 
+/// A table of states that is proposed for a program, with what has to be believed of the program beside them.
+#[derive(Drop)]
+pub struct StateTable {
+    /// The states.
+    pub states: Vec<Placed>,
+    /// The places in the table that the ways on from each state lead to; or, from [`APART`] on, where those for each byte of A begin. The
+    /// first is that of the program's start.
+    pub hints: Vec<u32>,
+    /// Whether procedures return, and whether it is known where to.
+    pub returns: CallReturns,
+    /// The variables that the states name.
+    pub variables: Vec<Variable>,
+}
+
+impl StateTable {
+    /// Whether the table fits an image, so that all runs of the image keep to it. `code` has the image's code by address, `reached` the
+    /// instructions on its walks, and `quiet` the marks of addresses: the table may know bytes of these alone.
+    pub fn fits(
+        &self,
+        image: &Image,
+        code: &[Option<u8>],
+        reached: &[Option<Fetched>],
+        quiet: &[bool],
+    ) -> bool
+        requires reached { AreReached (code_of image.now) reached.now }
+        requires whole { length reached.now ≡ 65536 }
+        requires rules { AreRegions image.now.regions }
+        requires code { AreCodeBytes image.now code.now }
+        ensures { result ≡ true → (is_quiet : ℕ → Bool) → ((at : ℕ) → is_marked quiet.now at ≡ true → is_quiet at ≡ true) →
+            ((at : ℕ) → is_quiet at ≡ true → in_data image.now.regions at ≡ true) → IsKept image.now is_quiet self.now.states.items }
+    {
+        let fit = Fit {
+            table: &self.states,
+            hints: &self.hints,
+            returns: &self.returns,
+            variables: &self.variables,
+            code,
+            regions: &image.regions,
+            reached,
+        };
+        fit.fits(image, quiet)
+    }
+}
+
 /// A table of states with its hints, and the program that it has to fit.
 #[derive(Clone, Copy)]
 pub(crate) struct Fit<'a> {
@@ -263,6 +307,32 @@ impl Fit<'_> {
             )
     }
 
+    /// Whether the table fits the image whose program this is: all runs of the image keep to it.
+    fn fits(&self, image: &Image, quiet: &[bool]) -> bool
+        requires reached { AreReached (code_of image.now) self.now.reached.now }
+        requires whole { length self.now.reached.now ≡ 65536 }
+        requires rules { AreRegions image.now.regions }
+        requires regions { self.now.regions.now ≡ image.now.regions }
+        requires code { AreCodeBytes image.now self.now.code.now }
+        ensures { result ≡ true → (is_quiet : ℕ → Bool) → ((at : ℕ) → is_marked quiet.now at ≡ true → is_quiet at ≡ true) →
+            ((at : ℕ) → is_quiet at ≡ true → in_data image.now.regions at ≡ true) → IsKept image.now is_quiet self.now.table.now }
+    {
+        fitting_states_hold();
+        if !all_know_quiet(self.table, quiet) {
+            return false;
+        }
+        if !are_quiet(self.variables, quiet) {
+            return false;
+        }
+        if !self.has(0, image.start, State::ANY) {
+            return false;
+        }
+        if !all_account(self.regions, self.returns, self.reached) {
+            return false;
+        }
+        self.all_fit()
+    }
+
     /// Whether each byte that a state's instruction stores where a variable may be is one of the variable's bytes, for all variables.
     fn are_steady(&self, placed: Placed, found: Fetched) -> bool
         ensures { result ≡ list_all (is_steady self.now.code.now found.instr placed.state.known) self.now.variables.now }
@@ -270,50 +340,6 @@ impl Fit<'_> {
         let known = placed.state.known;
         self.variables.iter().all(|variable| is_steady(self.code, found.instr, known, *variable))
     }
-}
-
-/// Whether a table of states fits an image, so that all runs of the image keep to it. The first hint is that of the image's start. `code`
-/// has the image's code by address, and `reached` the instructions on its walks. The table must know bytes of quiet addresses alone.
-pub fn fits(
-    image: &Image,
-    table: &[Placed],
-    hints: &[u32],
-    returns: &CallReturns,
-    variables: &[Variable],
-    code: &[Option<u8>],
-    reached: &[Option<Fetched>],
-    quiet: &[bool],
-) -> bool
-    requires reached { AreReached (code_of image.now) reached.now }
-    requires whole { length reached.now ≡ 65536 }
-    requires rules { AreRegions image.now.regions }
-    requires code { AreCodeBytes image.now code.now }
-    ensures { result ≡ true → (is_quiet : ℕ → Bool) → ((at : ℕ) → is_marked quiet.now at ≡ true → is_quiet at ≡ true) →
-        ((at : ℕ) → is_quiet at ≡ true → in_data image.now.regions at ≡ true) → IsKept image.now is_quiet table.now }
-{
-    fitting_states_hold();
-    let fit = Fit {
-        table,
-        hints,
-        returns,
-        variables,
-        code,
-        regions: &image.regions,
-        reached,
-    };
-    if !all_know_quiet(table, quiet) {
-        return false;
-    }
-    if !are_quiet(variables, quiet) {
-        return false;
-    }
-    if !fit.has(0, image.start, State::ANY) {
-        return false;
-    }
-    if !all_account(&image.regions, returns, reached) {
-        return false;
-    }
-    fit.all_fit()
 }
 
 /// Whether each reached address accounts for the addresses where its instruction leads.
