@@ -7,6 +7,7 @@
 #   make package   builds plm80 as `make run` does, and makes a Debian package of what make install installs, in out/; a tarball, if there is no dpkg-deb
 #   make test      proves every crate and runs every test
 #   make core      proves the core alone, with its wrong bodies and the tests of its crates: object files, LINK, LOCATE, the verifier, the loader and bundles
+#   make wrong     tries the wrong bodies that `make test` leaves out, since their crates' checks take long
 #   make commands  builds plm80 and runs the tests of its commands alone
 #   make faults    runs the tests, and plm80 on the examples, refusing one allocation, read or write at a time
 #   make bench     builds plm80 and prints million steps per second and host instructions per step of five programs, its start-up, and what it takes to verify programs, to link modules and to read libraries
@@ -14,7 +15,7 @@
 #   make lemmas    prints the files of lemmas of every crate, with what each is about
 #   make help      prints this
 
-.PHONY: help run try install install-files uninstall package package-files test core commands faults bench clauses lemmas build need-rt need-python3 need-cc need-prefix
+.PHONY: help run try install install-files uninstall package package-files test core wrong commands faults bench clauses lemmas build need-rt need-python3 need-cc need-prefix
 
 PREFIX = /usr/local
 PROGRAM = crates/plm80/out/plm80
@@ -113,6 +114,9 @@ test: need-rt need-python3
 
 core: need-rt need-python3
 	@tools/gate --core
+
+wrong: need-rt need-python3
+	@tests/wrong/run
 
 commands: need-python3 build
 	@tests/commands/run $(PROGRAM)
