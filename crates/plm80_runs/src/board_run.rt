@@ -46,7 +46,7 @@ impl<'a> BoardRunArguments<'a> {
 /// What is printed of a run.
 #[derive(Clone, Copy)]
 pub enum RunOutput {
-    /// Its transcript, as by `run`.
+    /// The transcript of the run, as by `run`.
     Transcript,
     /// The program's code with how often the run began each instruction, as by `cover`.
     Counts,
