@@ -90,7 +90,8 @@ pub fn find_modules<C: Console>(
 ) -> Result<u8, Reported>
     ensures done { IfOk result (Gives (FindsModules arguments.now) (arguments.now.dump.now ∷ map (λ path. path.now) arguments.now.files.items)
         (C.journal console.old) (C.journal console.new)) }
-    ensures fault { IfErr result (λ _. GivesUp (FindsModules arguments.now) (arguments.now.dump.now ∷ map (λ path. path.now) arguments.now.files.items)
+    ensures fault { IfErr result (λ _. GivesUp (FindsModules arguments.now) (arguments.now.dump.now ∷ map
+        (λ path. path.now) arguments.now.files.items)
         (C.journal console.old) (C.journal console.new)) }
 {
     let done = find_in_dump(console, arguments);
@@ -138,7 +139,8 @@ fn explain_libraries<C: Console>(console: &C, paths: &[&str]) {
 fn find_in_dump<C: Console>(console: &mut C, arguments: &FindArguments<'_>) -> Result<u8, Reported>
     ensures done { IfOk result (Gives (FindsModules arguments.now) (arguments.now.dump.now ∷ map (λ path. path.now) arguments.now.files.items)
         (C.journal console.old) (C.journal console.new)) }
-    ensures fault { IfErr result (λ _. GivesUp (FindsModules arguments.now) (arguments.now.dump.now ∷ map (λ path. path.now) arguments.now.files.items)
+    ensures fault { IfErr result (λ _. GivesUp (FindsModules arguments.now) (arguments.now.dump.now ∷ map
+        (λ path. path.now) arguments.now.files.items)
         (C.journal console.old) (C.journal console.new)) }
 {
     let first = arguments.first.word(console)?;

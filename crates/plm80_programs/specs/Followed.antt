@@ -10,7 +10,7 @@ use Rattle.image80_text.specs.NameText.{labelled_text}
 use Rattle.loader80_trace.specs.Cover.{cover_lines}
 use Rattle.verify80.specs.{Looking.code_of, Vouched.Voucher}
 use Rattle.verify80_flow.specs.{declared.refusal.Refusal.Refusal, declared.refusal.Refusal.TheVariants.Memory, Faults.Holds}
-use Rattle.verify80_follow.specs.{Fitting.IsFit, Promise.PromiseOf, Reaching.AreFollowed, Reaching.places_of}
+use Rattle.verify80_follow.specs.{Promise.PromiseOf, Reaching.AreFollowed, Reaching.places_of, Tables.IsFit}
 use Rattle.verify80_stores.specs.Boards.{is_quiet}
 use Rattle.plm80_console.specs.Answer.{AnswerValue, prints}
 use Rattle.plm80_names.specs.Verdict.{IsAccepted}

@@ -8,8 +8,9 @@ use Rattle.image80.specs.{declared.range.Range.Range, Image.Located}
 use Rattle.image80_text.specs.NameText.{named_text}
 use Rattle.verify80_stores.specs.{declared.stores.Stores.Stores, Boards.is_quiet}
 use Rattle.verify80_follow.specs.{declared.fit.Table.Table, declared.handling.Handler.Handler, FollowText.bounds_lines}
-use Rattle.verify80_follow.specs.{FollowText.live_lines, FollowText.ways_lines, Live.PromiseOfLive, Live.handler_bounds}
-use Rattle.verify80_follow.specs.{Fitting.AreFit, Fitting.IsFit, Promise.PromiseOf, Reaching.AreFollowed, Reaching.AreListed, Reaching.AreStoresFollowed, Reaching.places_of}
+use Rattle.verify80_follow.specs.{FollowText.live_lines, FollowText.ways_lines}
+use Rattle.verify80_follow.specs.{Promise.PromiseOf, Reaching.AreFollowed, Reaching.AreListed, Reaching.AreStoresFollowed, Reaching.places_of}
+use Rattle.verify80_follow.specs.Tables.{AreFit, IsFit, PromiseOfTables}
 use Rattle.verify80_follow_search.specs.declared.stop.StopReason.{StopReason}
 use Rattle.verify80_follow_search.specs.declared.stop.StopReason.TheVariants.{FetchOutside, UnusedOpcode, EnablesInterrupts, DirectStore, StackNotSet}
 use Rattle.verify80_follow_search.specs.declared.stop.StopReason.TheVariants.{LeavesStack, UnknownReturn, UnknownJump, UnknownPointer, NotGivenBack}
@@ -68,9 +69,8 @@ IsFollowedBy interrupted quiet image (Stopped stop) = Unit {0}
 
 -- and with tables of its handlers, on every live machine with these: they write no data but that which is said, and have no more bytes of stack
 abbrev pub KeepsWith : (quiet : List Range) → Located → LiveTables → (handlers : List ℕ) → (most : ℕ) → Type 0
-KeepsWith quiet image found handlers most =
-    PromiseOfLive image (is_quiet image.regions quiet) found.is_set handlers (places_of found.table found.handlers.items) found.table.ways.items
-    found.table.listed found.table.bytes (handler_bounds image.regions found.writes.items most found.handlers.items)
+KeepsWith quiet image found =
+    PromiseOfTables image (is_quiet image.regions quiet) (is_quiet image.regions found.writes.items) found.is_set found.table found.handlers.items
 
 -- with all of them, and with each alone, which has no more than its own table has
 abbrev pub KeepsLivePromise : (quiet : List Range) → Located → LiveTables → Type 0
@@ -97,12 +97,21 @@ pub record PrintsTable (first : List ℕ) (quiet : List Range) (lists : Bool) (i
   pub are_stores : AreStoresFollowed table.listed (not is_set) reached stores
   pub is : answer ≡ prints (followed_lines first quiet image publics table handlers stores ++ listing_lines lists image publics reached) 0
 
+-- the first lines of a table without handlers
+abbrev pub first_lines : (interrupted : Bool) → Located → Table → List ℕ
+first_lines interrupted image table = bounds_lines interrupted (length table.states.items) table.bytes image.regions.stack.length
+
+-- and of tables with handlers
+abbrev pub first_live_lines : Located → List Public → LiveTables → List ℕ
+first_live_lines image publics found = named_text image.regions.code publics (codes "HANDLER ")
+    (live_lines found.handlers.items found.writes.items (length found.table.states.items) found.table.bytes image.regions.stack.length found.most)
+
 -- The lines of a program that is followed are printed only if its promise is kept; of where a search stopped nothing is promised.
 pub data SaysFollowed (quiet : List Range) (interrupted : Bool) (handlers : List ℕ) (lists : Bool) (image : Located) (publics : List Public) (answer : AnswerValue) : Type 0 where
   followed : (table : Table) (is_set : Bool) → handlers ≡ [] → KeepsPromise interrupted quiet image table is_set →
-      PrintsTable (bounds_lines interrupted (length table.states.items) table.bytes image.regions.stack.length) quiet lists image publics table [] is_set answer → SaysFollowed quiet interrupted handlers lists image publics answer
+      PrintsTable (first_lines interrupted image table) quiet lists image publics table [] is_set answer → SaysFollowed quiet interrupted handlers lists image publics answer
   live : (found : LiveTables) → handlers ≢ [] → map (λ handler. handler.at) found.handlers.items ≡ handlers → KeepsLivePromise quiet image found →
-      PrintsTable (named_text image.regions.code publics (codes "HANDLER ") (live_lines found.handlers.items found.writes.items (length found.table.states.items) found.table.bytes image.regions.stack.length found.most)) quiet lists image publics found.table found.handlers.items found.is_set answer →
+      PrintsTable (first_live_lines image publics found) quiet lists image publics found.table found.handlers.items found.is_set answer →
       SaysFollowed quiet interrupted handlers lists image publics answer
   stopped : (at : ℕ) (reason : StopReason) →
       answer ≡ prints (named_text image.regions.code publics (codes "STOPPED ") (stopped_line at reason)) 1 → SaysFollowed quiet interrupted handlers lists image publics answer

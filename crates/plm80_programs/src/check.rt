@@ -78,7 +78,8 @@ pub fn check_files<C: Console>(
     console: &mut C,
     arguments: CheckArguments<'_>,
 ) -> Result<u8, Reported>
-    ensures done { let asked = arguments.entry in IfOk result (Gives (WithBoard asked.board (λ _. AnswersProgram PrintsReport (asks_names asked.files)))
+    ensures done { let asked = arguments.entry in IfOk result (Gives (WithBoard asked.board (λ _. AnswersProgram PrintsReport
+        (asks_names asked.files)))
         (board_paths asked.board ++ program_paths asked.files) (C.journal console.old) (C.journal console.new)) }
     ensures fault { let asked = arguments.entry in IfErr result (λ _. GivesUp (WithBoard asked.board (λ _. AnswersProgram PrintsReport
         (asks_names asked.files))) (board_paths asked.board ++ program_paths asked.files) (C.journal console.old) (C.journal console.new)) }

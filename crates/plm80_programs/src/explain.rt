@@ -112,7 +112,8 @@ pub fn explain_files<C: Console>(
 ) -> Result<u8, Reported>
     ensures done { let asked = arguments.entry in IfOk result (Gives (WithBoard asked.board (λ _. AnswersProgram (PrintsExplanation asked.all)
         (asks_names asked.files))) (board_paths asked.board ++ program_paths asked.files) (C.journal console.old) (C.journal console.new)) }
-    ensures fault { let asked = arguments.entry in IfErr result (λ _. GivesUp (WithBoard asked.board (λ _. AnswersProgram (PrintsExplanation asked.all)
+    ensures fault { let asked = arguments.entry in IfErr result (λ _. GivesUp (WithBoard asked.board (λ _. AnswersProgram
+        (PrintsExplanation asked.all)
         (asks_names asked.files))) (board_paths asked.board ++ program_paths asked.files) (C.journal console.old) (C.journal console.new)) }
 {
     let board = GivenBoard::read(console, arguments.board)?;

@@ -1,14 +1,15 @@
 //! `plm80 follow`: a program followed by what is known of each byte of its stack.
 
-ghost use Rattle.std.specs.Prelude.{◌≡◌, ◌++◌, All, IfErr, IfOk, [], codes, length};
+ghost use Rattle.std.specs.Prelude.{◌≡◌, ◌++◌, All, IfErr, IfOk, [], codes};
 ghost use Rattle.plm80_boards.specs.Boards.{WithBoard, board_paths};
 ghost use Rattle.plm80_console.specs.{Answer.Gives, Answer.GivesUp, Answer.IsAnswered, Answer.IsGivenUp};
 ghost use Rattle.image80_text.specs.NameText.{named_text};
 ghost use Rattle.plm80_names.specs.{Arguments.program_paths, Blaming.GivesUpOrBlames};
-ghost use Rattle.verify80_follow.specs.FollowText.{bounds_lines, live_lines, ways_lines};
+ghost use Rattle.verify80_follow.specs.FollowText.{ways_lines};
 ghost use Rattle.plm80_programs.specs.Arguments.{AreFollowArguments};
 ghost use Rattle.plm80_programs.specs.Printed.{AreNamedData, IsAllData, stores_lines};
-ghost use Rattle.plm80_programs.specs.Following.{AnswersFollowing, PrintsFollowed, PrintsFollowedOn, PrintsTable, PrintsWithRam, SaysFollowed, followed_lines, listing_lines};
+ghost use Rattle.plm80_programs.specs.Following.{AnswersFollowing, PrintsFollowed, PrintsFollowedOn, PrintsTable, PrintsWithRam, SaysFollowed};
+ghost use Rattle.plm80_programs.specs.Following.{first_lines, first_live_lines, followed_lines, listing_lines};
 
 use crate::finding::{FollowedAll, LiveTables, find_all};
 use crate::stops::{explain_stop, stopped_text};
@@ -258,7 +259,8 @@ fn print_with_ram<C: Console>(
 ) -> Result<u8, Reported>
     ensures done { let way = asked.entry in IfOk result (IsAnswered (PrintsWithRam board.now way.interrupted way.handlers.now way.lists image.now names.now)
         (C.journal console.old) (C.journal console.new)) }
-    ensures fault { let way = asked.entry in IfErr result (λ _. IsGivenUp (PrintsWithRam board.now way.interrupted way.handlers.now way.lists image.now
+    ensures fault { let way = asked.entry in IfErr result (λ _. IsGivenUp
+        (PrintsWithRam board.now way.interrupted way.handlers.now way.lists image.now
         names.now) (C.journal console.old) (C.journal console.new)) }
 {
     match answer_with_ram(console.alloc(), image, names, board, asked) {
@@ -376,7 +378,8 @@ fn answer_of_alone(
     table: &Table,
     is_set: bool,
 ) -> Result<Answer<'static>, AllocError>
-    ensures { IfOk result (PrintsTable (bounds_lines asked.entry.interrupted (length table.now.states.items) table.now.bytes image.now.regions.stack.length) asked.entry.quiet.now asked.entry.lists image.now names.now table.now [] is_set) }
+    ensures { IfOk result (PrintsTable (first_lines asked.entry.interrupted image.now table.now)
+        asked.entry.quiet.now asked.entry.lists image.now names.now table.now [] is_set) }
 {
     let room = image.regions.stack().length;
     let first = bounds_text(alloc, table, room, asked.interrupted)?;
@@ -396,7 +399,8 @@ fn answer_of_live(
     asked: Asked<'_>,
     found: &LiveTables,
 ) -> Result<Answer<'static>, AllocError>
-    ensures { IfOk result (PrintsTable (named_text image.now.regions.code names.now (codes "HANDLER ") (live_lines found.now.handlers.items found.now.writes.items (length found.now.table.states.items) found.now.table.bytes image.now.regions.stack.length found.now.most)) asked.entry.quiet.now asked.entry.lists image.now names.now found.now.table found.now.handlers.items found.now.is_set) }
+    ensures { IfOk result (PrintsTable (first_live_lines image.now names.now found.now)
+        asked.entry.quiet.now asked.entry.lists image.now names.now found.now.table found.now.handlers.items found.now.is_set) }
 {
     let LiveTables {
         table,
@@ -493,7 +497,8 @@ fn named_ways(
     names: &Names,
     tables: Tables<'_>,
 ) -> Result<Vec<u8>, AllocError>
-    ensures { IfOk result (λ text. text.items ≡ named_text image.now.regions.code names.now (codes "WAY ") (ways_lines tables.entry.table.now.ways.items tables.entry.handlers.now)) }
+    ensures { IfOk result (λ text. text.items ≡ named_text image.now.regions.code names.now (codes "WAY ")
+        (ways_lines tables.entry.table.now.ways.items tables.entry.handlers.now)) }
 {
     let text = ways_text(alloc, &tables.table.ways, tables.handlers)?;
     names.name(alloc, image.regions.code(), b"WAY ", text)

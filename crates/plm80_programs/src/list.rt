@@ -96,7 +96,8 @@ impl<'a> ListArguments<'a> {
 pub fn list_files<C: Console>(console: &mut C, arguments: ListArguments<'_>) -> Result<u8, Reported>
     ensures done { let asked = arguments.entry in IfOk result (Gives (AnswersProgram (PrintsListing asked.reached asked.source) (asks_names asked.files))
         (program_paths asked.files) (C.journal console.old) (C.journal console.new)) }
-    ensures fault { IfErr result (λ _. GivesUp (AnswersProgram (PrintsListing arguments.entry.reached arguments.entry.source) (asks_names arguments.entry.files)) (program_paths arguments.entry.files)
+    ensures fault { IfErr result (λ _. GivesUp (AnswersProgram (PrintsListing arguments.entry.reached arguments.entry.source)
+        (asks_names arguments.entry.files)) (program_paths arguments.entry.files)
         (C.journal console.old) (C.journal console.new)) }
 {
     faults_follow_reading();

@@ -27,7 +27,7 @@ use Rattle.plm80_runs.specs.declared.board_trace.BoardTraceArguments.{BoardTrace
 use Rattle.plm80_runs.specs.declared.runnable.{Judged.Judged, Judged.TheVariants.Refused, Judged.TheVariants.Runs}
 use Rattle.plm80_runs.specs.declared.runnable.{Runnable.Runnable, Runnable.TheVariants.Accepted, Runnable.TheVariants.Followed}
 use Rattle.verify80.specs.{Looking.code_of, Reached.AreReached}
-use Rattle.verify80_follow.specs.{declared.fit.Table.Table, Fitting.IsFit, Follows.ways_of, Promise.KeepsFollowed, Promise.PromiseOf, Reaching.AreFollowed, Reaching.places_of}
+use Rattle.verify80_follow.specs.{Follows.ways_of, Promise.KeepsFollowed, Promise.PromiseOf, Reaching.AreFollowed, Reaching.places_of, Tables.IsFit, declared.fit.Table.Table}
 use Rattle.verify80_states.specs.QuietBoards.{is_quiet}
 
 -- ---- three files

@@ -70,7 +70,8 @@ impl<'a> BoardFiles<'a> {
     /// Reads the file of the board. A fault is reported.
     fn read_board<C: Console>(self, console: &mut C) -> Result<Board, Reported>
         ensures read { IfOk result (λ board. IsBoardRead (Some self.entry.board) (C.journal console.old) (C.journal console.new) (Some board)) }
-        ensures fault { IfErr result (λ _. OnlyBlames HaveNoBoard (board_paths (Some self.entry.board)) (C.journal console.old) (C.journal console.new)) }
+        ensures fault { IfErr result (λ _. OnlyBlames HaveNoBoard (board_paths (Some self.entry.board)) (C.journal console.old)
+            (C.journal console.new)) }
     {
         let text = console.read(self.board)?;
         board_of(console, self.board, &text)

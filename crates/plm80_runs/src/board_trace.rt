@@ -149,7 +149,8 @@ fn end_trace<C: Console>(
     names: &Names,
 ) -> Result<u8, Reported>
     ensures given { IfOk result (IsGiven (board_trace_ending (image_of program.now) names.now ended.now) (C.journal console.old) (C.journal console.new)) }
-    ensures fault { IfErr result (λ _. IsGivenUp (λ answer. answer ≡ board_trace_ending (image_of program.now) names.now ended.now) (C.journal console.old) (C.journal console.new)) }
+    ensures fault { IfErr result (λ _. IsGivenUp (λ answer. answer ≡ board_trace_ending (image_of program.now) names.now ended.now)
+        (C.journal console.old) (C.journal console.new)) }
 {
     let Ok(ending) = board_trace_ending_of(console.alloc(), program.image(), ended, names) else {
         return Err(console.report_memory());

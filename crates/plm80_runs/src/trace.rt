@@ -100,7 +100,8 @@ fn trace_within<C: Console>(
 ) -> Result<u8, Reported>
     ensures done { IfOk result (Gives (AnswersRun (λ inputs. TracesRun inputs limits span) files.entry.program.names) (run_paths files.entry)
         (C.journal console.old) (C.journal console.new)) }
-    ensures fault { IfErr result (λ _. GivesUp (AnswersRun (λ inputs. TracesPart inputs limits span) files.entry.program.names) (run_paths files.entry)
+    ensures fault { IfErr result (λ _. GivesUp (AnswersRun (λ inputs. TracesPart inputs limits span) files.entry.program.names)
+        (run_paths files.entry)
         (C.journal console.old) (C.journal console.new)) }
 {
     faults_follow_reading();
@@ -158,7 +159,8 @@ fn end_trace<C: Console>(
     names: &Names,
 ) -> Result<u8, Reported>
     ensures given { IfOk result (IsGiven (trace_ending vouched.now names.now ended.now) (C.journal console.old) (C.journal console.new)) }
-    ensures fault { IfErr result (λ _. IsGivenUp (λ answer. answer ≡ trace_ending vouched.now names.now ended.now) (C.journal console.old) (C.journal console.new)) }
+    ensures fault { IfErr result (λ _. IsGivenUp (λ answer. answer ≡ trace_ending vouched.now names.now ended.now) (C.journal console.old)
+        (C.journal console.new)) }
 {
     let Ok(ending) = trace_ending_of(console.alloc(), vouched, ended, names) else {
         return Err(console.report_memory());

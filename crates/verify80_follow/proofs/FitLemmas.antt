@@ -13,7 +13,7 @@ use Rattle.verify80.specs.{Looking.is_declared, Looking.look_at, Looking.stores_
 use Rattle.verify80.specs.LookLaws.{IsEiAlone, IsPchlUndeclared, LooksAnswerFaultsThatHold, LooksFindWhatIsAdmitted, fetch_at}
 use Rattle.verify80_follow.specs.declared.{fit.Table.Table, followed.FollowedState.FollowedState, followed.Listed.Listed, followed.Way.Way, handling.Handler.Handler}
 use Rattle.verify80_follow.specs.{Follows.IsExecuted, Promise.IsLeftOpenAt, Promise.PromiseOf}
-use Rattle.verify80_follow.specs.{Fitting.AreFit, Fitting.IsFit, Handling.HandlesAmong, Handling.IsHandled, Reaching.places_of}
+use Rattle.verify80_follow.specs.{Handling.HandlesAmong, Handling.IsHandled, Reaching.places_of, Tables.AreFit, Tables.IsFit}
 use Rattle.verify80_follow.specs.Live.{Enable, HandlerBounds, KeepsLive, OnLiveBoard, PromiseOfLive, begins as begins_live}
 use Rattle.verify80_follow.specs.Live.{disturbed as disturbed_live, executed as executed_live, handler_ways, interrupted as interrupted_live}
 use Rattle.verify80_follow.specs.InterruptedBoards.{OnInterruptedBoard, begins as begins_interrupted, disturbed as disturbed_interrupted, executed as executed_interrupted, woken}

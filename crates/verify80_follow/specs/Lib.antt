@@ -5,7 +5,7 @@ pub mod Follows
 pub mod Handling
 pub mod Promise
 pub mod Live
-pub mod Fitting
+pub mod Tables
 pub mod FollowText
 pub mod Reaching
 -- what the crate's own functions promise one another: no public contract cites these

@@ -5,11 +5,10 @@
 use Rattle.std.specs.Prelude.{◌≡◌, ◌≢◌, ◌⊎◌, ◌≤◌, ◌<◌, ◌+◌, ◌||◌, ◌&&◌, ◌++◌, ◌∷◌, [], ℕ, ◌/◌, ◌%◌, Bool, true, false, slice_index, List, Option}
 use Rattle.std.specs.Prelude.{None, Some, All, Contains, nat_eq, length, if◌then◌else◌}
 use Rattle.std.specs.List.{flat_map}
-use Rattle.image80.specs.declared.range.Range.{Range}
 use Rattle.decode80.specs.{Fetch.behind, Fetch.direct_bytes, declared.fetching.Fetched.Fetched, declared.instr.Instr.Instr}
 use Rattle.decode80.specs.declared.instr.Instr.TheVariants.{Di, Ei, Hlt, Lxi, Pchl}
 use Rattle.decode80.specs.declared.pair.Pair.TheVariants.{Sp}
-use Rattle.image80.specs.{Image.Located, Image.memory_of, Range.in_ranges, Regions.AreRegions, Regions.Areas, Regions.in_data, Regions.targets_at, Regions.top_of}
+use Rattle.image80.specs.{Image.Located, Image.memory_of, Regions.AreRegions, Regions.Areas, Regions.in_data, Regions.targets_at, Regions.top_of}
 use Rattle.machine80.specs.{Cpu.hl_of, Effects.pointed_bytes, Effects.push_bytes, Effects.stack_bytes, Effects.stored}
 use Rattle.machine80.specs.{Effects.target, Run.world_of, Step.Machine, Step.fetch, World.World, World.returns}
 use Rattle.verify80.specs.Boards.{Disturbs, Executes, IsFollowed, IsPushed, StaysInside, fetched_anywhere, respected_pointer, sets_sp}
@@ -147,10 +146,6 @@ KeepsLive image handlers main inner ways listed flag (Some u) w = KeepsHandler i
 -- the ways of handlers' tables
 abbrev pub handler_ways : List Handler → List Way
 handler_ways handlers = flat_map (λ handler. handler.table.ways.items) handlers
-
--- what is said of handlers with these tables that write the data of these ranges
-abbrev pub handler_bounds : Areas → (writes : List Range) → (bytes : ℕ) → List Handler → HandlerBounds
-handler_bounds regions writes bytes handlers = record { written = λ address. in_data regions address && in_ranges writes address; bytes = bytes; ways = handler_ways handlers }
 
 -- On every live machine, from the image's start: up to the first step at a listed address that stores outside data or jumps by HL to none of its declared
 -- targets. Each instruction is at one of the places where the tables' states stand.

@@ -8,7 +8,7 @@ ghost use Rattle.verify80_states.specs.Known.{nothing_known};
 ghost use Rattle.verify80_stores.specs.DataReach.{AreDataEnds};
 ghost use Rattle.verify80_follow.specs.Follows.{FitsSummary, Goes, Has, PassesBy, ReturnsBack, StepsOver};
 ghost use Rattle.verify80_follow.specs.Follows.{Summarizes, beside_call, called, entered_stack, is_return, stack_of, uses_pointer};
-ghost use Rattle.verify80_follow.specs.Fitting.{fitting_of};
+ghost use Rattle.verify80_follow.specs.Tables.{fitting_of};
 ghost use Rattle.verify80_follow.specs.Held.{count_of};
 
 use crate::fit::{Fit, Standing};
@@ -71,7 +71,8 @@ pub fn is_last(state: &FollowedState) -> bool
 impl Fit<'_> {
     /// Whether a call or return under a condition is covered behind it, by the third hint.
     fn passes_by(&self, alloc: Global, here: Standing<'_>) -> Result<bool, AllocError>
-        ensures { IfOk result (λ passes. passes ≡ true → PassesBy self.now.bounds (fitting_of self.now) here.entry.state.now here.entry.found (flow here.entry.found.instr)) }
+        ensures { IfOk result (λ passes. passes ≡ true → PassesBy self.now.bounds (fitting_of self.now) here.entry.state.now here.entry.found
+            (flow here.entry.found.instr)) }
     {
         let known = here.state.known;
         match here.found.instr.flow() {
@@ -175,7 +176,8 @@ impl Fit<'_> {
 
     /// Whether there is an instruction at a state, and it doesn't depend on where the stack lies.
     fn is_fixed(&self, state: &FollowedState) -> bool
-        ensures { result ≡ true → (found : Fetched) → fetch_at self.now.program.now.regions (memory_of self.now.program.now.chunks) state.now.at ≡ Ok found → uses_pointer found.instr ≡ false }
+        ensures { result ≡ true → (found : Fetched) → fetch_at self.now.program.now.regions
+            (memory_of self.now.program.now.chunks) state.now.at ≡ Ok found → uses_pointer found.instr ≡ false }
     {
         match fetch(state.at, self.program) {
             Ok(found) => !uses_pointer(found.instr),

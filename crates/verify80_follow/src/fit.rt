@@ -9,7 +9,7 @@ ghost use Rattle.verify80_follow.specs.Follows.{Covers, CoversStack, CoversThen,
 ghost use Rattle.verify80_follow.specs.Follows.{JumpsBy, IsExecuted, IsShownOrListed, JumpsByNumber, LeadsIf, LeadsTo, LeavesHalt, MayStand, ways_of};
 ghost use Rattle.verify80_follow.specs.Follows.{ReturnsLeft, StateFollows, first_stack, is_call, stack_of};
 ghost use Rattle.verify80_follow.specs.Held.{IsBesideInside, beside_then, nothing_beside};
-ghost use Rattle.verify80_follow.specs.{Fitting.IsFit, Fitting.fitting_of, Promise.PromiseOf, Reaching.places_of};
+ghost use Rattle.verify80_follow.specs.{Promise.PromiseOf, Reaching.places_of, Tables.IsFit, Tables.fitting_of};
 ghost use Rattle.verify80_follow.specs.Stack.{IsStackInside, after_of, bounds_of};
 ghost use Rattle.decode80.specs.{Facts.flow, declared.flow.Flow.TheVariants.JumpsToHl, declared.instr.Instr.TheVariants.Ei};
 ghost use Rattle.verify80.specs.{LookLaws.fetch_at, Looking.declared_targets, Looking.is_declared};
@@ -207,7 +207,8 @@ impl Fit<'_> {
         beside: Beside,
         stack: Option<&[ByteSpan]>,
     ) -> bool
-        ensures { result ≡ true → (byte : ℕ) → ByteWithin known.a byte → Has self.now.table.now to (cut known (byte_alone byte)) beside (option_map (λ bytes. bytes.now) stack.entry) }
+        ensures { result ≡ true → (byte : ℕ) → ByteWithin known.a byte →
+            Has self.now.table.now to (cut known (byte_alone byte)) beside (option_map (λ bytes. bytes.now) stack.entry) }
     {
         let Some(first) = self.hints.get(hint as usize) else {
             return false;
@@ -239,7 +240,8 @@ impl Fit<'_> {
         way: Onward,
         known: Known,
     ) -> Result<bool, AllocError>
-        ensures { IfOk result (λ covers. covers ≡ true → CoversThen self.now.bounds (fitting_of self.now) here.entry.state.now here.entry.found way.taken way.to known) }
+        ensures { IfOk result (λ covers. covers ≡ true → CoversThen self.now.bounds
+            (fitting_of self.now) here.entry.state.now here.entry.found way.taken way.to known) }
     {
         let Standing { state, found } = here;
         let bounds = self.bounds;
@@ -259,7 +261,8 @@ impl Fit<'_> {
         known: Known,
         stack: &StackAfter,
     ) -> bool
-        ensures { result ≡ true → CoversStack self.now.table.now self.now.bytes way.to known (λ left. beside_then here.entry.found.instr (stack_of here.entry.state.now) left here.entry.state.now.beside) (after_of stack.now) }
+        ensures { result ≡ true → CoversStack self.now.table.now self.now.bytes way.to known (λ left. beside_then here.entry.found.instr
+            (stack_of here.entry.state.now) left here.entry.state.now.beside) (after_of stack.now) }
     {
         let Onward { hint, to, .. } = way;
         let Standing { state, found } = here;
@@ -285,7 +288,8 @@ impl Fit<'_> {
         way: Onward,
         left: Option<Known>,
     ) -> Result<bool, AllocError>
-        ensures { IfOk result (λ leads. leads ≡ true → LeadsTo self.now.bounds (fitting_of self.now) here.entry.state.now here.entry.found way.taken way.to left) }
+        ensures { IfOk result (λ leads. leads ≡ true → LeadsTo self.now.bounds
+            (fitting_of self.now) here.entry.state.now here.entry.found way.taken way.to left) }
     {
         match left {
             None => Ok(true),
@@ -301,7 +305,8 @@ impl Fit<'_> {
         condition: Condition,
         to: u16,
     ) -> Result<bool, AllocError>
-        ensures { IfOk result (λ leads. leads ≡ true → LeadsIf self.now.bounds (fitting_of self.now) here.entry.state.now here.entry.found condition to) }
+        ensures { IfOk result (λ leads. leads ≡ true → LeadsIf self.now.bounds
+            (fitting_of self.now) here.entry.state.now here.entry.found condition to) }
     {
         let known = here.state.known;
         let taken = self.leads_to(alloc, here, here.taken(to), given(condition, true, known))?;
@@ -366,7 +371,8 @@ impl Fit<'_> {
         here: Standing<'_>,
         left: Option<Known>,
     ) -> Result<bool, AllocError>
-        ensures { IfOk result (λ returns. returns ≡ true → ReturnsLeft self.now.bounds (fitting_of self.now) here.entry.state.now here.entry.found left) }
+        ensures { IfOk result (λ returns. returns ≡ true → ReturnsLeft self.now.bounds
+            (fitting_of self.now) here.entry.state.now here.entry.found left) }
     {
         let Some(known) = left else {
             return Ok(true);
@@ -413,7 +419,8 @@ impl Fit<'_> {
         place: usize,
         to: u16,
     ) -> Result<bool, AllocError>
-        ensures { IfOk result (λ covers. covers ≡ true → Within here.entry.state.now.known.hl.words to → CoversThen self.now.bounds (fitting_of self.now) here.entry.state.now here.entry.found false to here.entry.state.now.known) }
+        ensures { IfOk result (λ covers. covers ≡ true → Within here.entry.state.now.known.hl.words to →
+            CoversThen self.now.bounds (fitting_of self.now) here.entry.state.now here.entry.found false to here.entry.state.now.known) }
     {
         let known = here.state.known;
         let words = known.hl.words;
@@ -431,7 +438,8 @@ impl Fit<'_> {
         by_targets: bool,
     ) -> Result<bool, AllocError>
         requires declared { flow here.found.instr ≡ JumpsToHl → is_declared self.now.program.now.regions here.state.now.at ≡ by_targets }
-        ensures { IfOk result (λ follows. follows ≡ true → FollowsBy self.now.bounds (fitting_of self.now) here.entry.state.now here.entry.found (flow here.entry.found.instr)) }
+        ensures { IfOk result (λ follows. follows ≡ true → FollowsBy self.now.bounds (fitting_of self.now) here.entry.state.now here.entry.found
+            (flow here.entry.found.instr)) }
     {
         let known = here.state.known;
         match here.found.instr.flow() {
@@ -531,7 +539,8 @@ impl Fit<'_> {
 
     /// The instruction that is fetched at an address, with whether targets are declared.
     fn executed_by(&self, at: u16, by_targets: bool) -> Option<Executed>
-        ensures { IfSome result (λ it. (fetch_at self.now.program.now.regions (memory_of self.now.program.now.chunks) at ≡ Ok it.found) × (it.by_targets ≡ by_targets)) }
+        ensures { IfSome result (λ it. (fetch_at self.now.program.now.regions (memory_of self.now.program.now.chunks) at ≡ Ok it.found) ×
+            (it.by_targets ≡ by_targets)) }
     {
         match fetch(at, self.program) {
             Ok(found) => Some(Executed { found, by_targets }),
@@ -637,7 +646,8 @@ pub fn follows(
 ) -> Result<bool, AllocError>
     ensures promise { IfOk result (λ follows. follows ≡ true →
         PromiseOf run.interrupted image.now (is_quiet image.now.regions quiet.now) run.is_set (places_of table.now []) table.now.ways.items table.now.listed table.now.bytes) }
-    ensures fit { IfOk result (λ follows. follows ≡ true → IsFit image.now run.interrupted (is_quiet image.now.regions quiet.now) run.is_set table.now []) }
+    ensures fit { IfOk result (λ follows. follows ≡ true → IsFit image.now run.interrupted
+        (is_quiet image.now.regions quiet.now) run.is_set table.now []) }
 {
     image.regions.stack();
     let code = code_bytes(alloc, image)?;
@@ -657,7 +667,8 @@ fn follows_marked(
     requires rules { AreRegions image.now.regions }
     requires code { AreCodeBytes image.now code.now }
     requires quiet { (at : ℕ) → is_marked quiet.now at ≡ true → in_data image.now.regions at ≡ true }
-    ensures promise { IfOk result (λ follows. follows ≡ true → PromiseOf run.interrupted image.now (is_marked quiet.now) run.is_set (places_of table.now [])
+    ensures promise { IfOk result (λ follows. follows ≡ true → PromiseOf run.interrupted image.now (is_marked quiet.now) run.is_set
+        (places_of table.now [])
         table.now.ways.items table.now.listed table.now.bytes) }
     ensures fit { IfOk result (λ follows. follows ≡ true → IsFit image.now run.interrupted (is_marked quiet.now) run.is_set table.now []) }
 {

@@ -9,7 +9,7 @@ ghost use Rattle.verify80_stores.specs.{DataReach.AreDataEnds, Opening.pointer_s
 ghost use Rattle.verify80_follow.specs.Follows.{Has, stack_of, uses_pointer, entered_stack};
 ghost use Rattle.verify80_follow.specs.Held.{IsBesideInside, count_of, nothing_beside};
 ghost use Rattle.verify80_follow.specs.Handling.{BeginsAnew, GivesBack, Handles, IsHandled, IsReturn, entered_beside};
-ghost use Rattle.verify80_follow.specs.{Fitting.AreFit, Fitting.fitting_of, Live.PromiseOfLive, Live.handler_bounds, Live.handler_ways, Reaching.places_of};
+ghost use Rattle.verify80_follow.specs.Tables.{AreFit, IsHandledAround, PromiseOfTables, fitting_of};
 ghost use Rattle.verify80_follow.specs.Stack.{IsStackInside};
 ghost use Rattle.verify80_follow.specs.Writes.{AreWriteEnds, MayBeWritten};
 
@@ -115,7 +115,8 @@ impl Fit<'_> {
         requires ends { AreDataEnds self.now.regions.now self.now.ends.now }
         requires anew { (at : ℕ) → is_marked around.anew.now at ≡ true → Has around.main.now at nothing_known nothing_beside (Some []) }
         requires writes { AreWriteEnds around.writes.regions.now around.writes.marks.now around.writes.ends.now }
-        ensures { IfOk result (λ handles. handles ≡ true → Handles around.entry.main.now (is_marked around.entry.writes.marks.now) self.now.bounds (fitting_of self.now) state.now) }
+        ensures { IfOk result (λ handles. handles ≡ true → Handles around.entry.main.now (is_marked around.entry.writes.marks.now) self.now.bounds
+            (fitting_of self.now) state.now) }
     {
         let Some(executed) = self.executed(state.at) else {
             return Ok(false);
@@ -144,7 +145,8 @@ impl Fit<'_> {
         requires ends { AreDataEnds self.now.regions.now self.now.ends.now }
         requires anew { (at : ℕ) → is_marked around.anew.now at ≡ true → Has around.main.now at nothing_known nothing_beside (Some []) }
         requires writes { AreWriteEnds around.writes.regions.now around.writes.marks.now around.writes.ends.now }
-        ensures { IfOk result (λ handle. handle ≡ true → All (Handles around.entry.main.now (is_marked around.entry.writes.marks.now) self.now.bounds (fitting_of self.now)) self.now.table.now) }
+        ensures { IfOk result (λ handle. handle ≡ true → All (Handles around.entry.main.now (is_marked around.entry.writes.marks.now) self.now.bounds
+            (fitting_of self.now)) self.now.table.now) }
     {
         for place in 0..self.table.len() {
             if !self.handles_state(alloc, &self.table[place], around)? {
@@ -159,7 +161,8 @@ impl Fit<'_> {
 fn stores_to(writes: Writes<'_>, instr: Instr, state: &FollowedState) -> bool
     requires { AreWriteEnds writes.regions.now writes.marks.now writes.ends.now }
     ensures direct { result ≡ true → All (MayBeWritten writes.entry.regions.now writes.entry.marks.now) (direct_bytes instr) }
-    ensures pointed { result ≡ true → IfSome (pointer_span instr state.now.known) (λ span. (a : ℕ) → Within span a → MayBeWritten writes.entry.regions.now writes.entry.marks.now a) }
+    ensures pointed { result ≡ true → IfSome (pointer_span instr state.now.known) (λ span. (a : ℕ) → Within span a →
+        MayBeWritten writes.entry.regions.now writes.entry.marks.now a) }
 {
     writes.have_direct(instr)
         && match pointer_span(instr, state.known) {
@@ -221,13 +224,14 @@ pub fn follows_live(
     run: LiveRun<'_>,
 ) -> Result<bool, AllocError>
     ensures promise { IfOk result (λ follows. follows ≡ true →
-        PromiseOfLive image.now (is_quiet image.now.regions run.entry.quiet.now) run.entry.is_set (map (λ handler. handler.at) handlers.now) (places_of table.now handlers.now)
-        table.now.ways.items table.now.listed table.now.bytes (handler_bounds image.now.regions run.entry.writes.now run.entry.most handlers.now)) }
+        PromiseOfTables image.now (is_quiet image.now.regions run.entry.quiet.now) (is_quiet image.now.regions run.entry.writes.now) run.entry.is_set
+        table.now handlers.now (map (λ handler. handler.at) handlers.now) run.entry.most) }
     ensures each { IfOk result (λ follows. follows ≡ true → All (λ handler.
-        PromiseOfLive image.now (is_quiet image.now.regions run.entry.quiet.now) run.entry.is_set (handler.at ∷ []) (places_of table.now handlers.now)
-        table.now.ways.items table.now.listed table.now.bytes (handler_bounds image.now.regions run.entry.writes.now handler.table.bytes handlers.now)) handlers.now) }
+        PromiseOfTables image.now (is_quiet image.now.regions run.entry.quiet.now) (is_quiet image.now.regions run.entry.writes.now) run.entry.is_set
+        table.now handlers.now (handler.at ∷ []) handler.table.bytes) handlers.now) }
     ensures fit { IfOk result (λ follows. follows ≡ true →
-        AreFit image.now (is_quiet image.now.regions run.entry.quiet.now) (is_quiet image.now.regions run.entry.writes.now) run.entry.is_set table.now handlers.now run.entry.most) }
+        AreFit image.now (is_quiet image.now.regions run.entry.quiet.now) (is_quiet image.now.regions run.entry.writes.now) run.entry.is_set
+        table.now handlers.now run.entry.most) }
 {
     image.regions.stack();
     let code = code_bytes(alloc, image)?;
@@ -265,10 +269,12 @@ fn follows_live_marked(
     requires rules { AreRegions image.now.regions }
     requires code { AreCodeBytes image.now looked.code.now }
     requires quiet { (at : ℕ) → is_marked looked.quiet.now at ≡ true → in_data image.now.regions at ≡ true }
-    ensures promise { IfOk result (λ follows. follows ≡ true → PromiseOfLive image.now (is_marked looked.entry.quiet.now) is_set (map (λ handler. handler.at) handlers.now) (places_of table.now handlers.now)
-        table.now.ways.items table.now.listed table.now.bytes (record { written = is_marked looked.entry.written.now; bytes = most; ways = handler_ways handlers.now })) }
-    ensures each { IfOk result (λ follows. follows ≡ true → All (λ handler. PromiseOfLive image.now (is_marked looked.entry.quiet.now) is_set (handler.at ∷ []) (places_of table.now handlers.now)
-        table.now.ways.items table.now.listed table.now.bytes (record { written = is_marked looked.entry.written.now; bytes = handler.table.bytes; ways = handler_ways handlers.now })) handlers.now) }
+    ensures promise { IfOk result (λ follows. follows ≡ true →
+        PromiseOfTables image.now (is_marked looked.entry.quiet.now) (is_marked looked.entry.written.now) is_set
+        table.now handlers.now (map (λ handler. handler.at) handlers.now) most) }
+    ensures each { IfOk result (λ follows. follows ≡ true → All (λ handler.
+        PromiseOfTables image.now (is_marked looked.entry.quiet.now) (is_marked looked.entry.written.now) is_set
+        table.now handlers.now (handler.at ∷ []) handler.table.bytes) handlers.now) }
     ensures fit { IfOk result (λ follows. follows ≡ true →
         AreFit image.now (is_marked looked.entry.quiet.now) (is_marked looked.entry.written.now) is_set table.now handlers.now most) }
 {
@@ -351,7 +357,8 @@ fn are_all_handled<'a>(
     most: u16,
 ) -> Result<bool, AllocError>
     requires code { AreCodeBytes image.now looked.code.now }
-    ensures { IfOk result (λ handled. handled ≡ true → All (IsHandled image.now table.now.states.items (is_marked looked.entry.written.now) (is_marked looked.entry.quiet.now) places.now table.now.listed most) handlers.now) }
+    ensures { IfOk result (λ handled. handled ≡ true → All (IsHandled image.now table.now.states.items (is_marked looked.entry.written.now)
+        (is_marked looked.entry.quiet.now) places.now table.now.listed most) handlers.now) }
 {
     let anew = mark_anew(alloc, &table.states)?;
     let ends = find_write_ends(alloc, &image.regions, looked.written)?;
@@ -382,7 +389,7 @@ fn are_handled(
     requires written { around.writes.regions.now ≡ image.now.regions }
     requires anew { (at : ℕ) → is_marked around.anew.now at ≡ true → Has around.main.now at nothing_known nothing_beside (Some []) }
     requires writes { AreWriteEnds around.writes.regions.now around.writes.marks.now around.writes.ends.now }
-    ensures { IfOk result (λ handled. handled ≡ true → All (IsHandled image.now around.entry.main.now (is_marked around.entry.writes.marks.now) (is_marked looked.entry.quiet.now) around.entry.places.now around.entry.listed.now around.entry.most) handlers.now) }
+    ensures { IfOk result (λ handled. handled ≡ true → All (IsHandledAround image.now around.entry (is_marked looked.entry.quiet.now)) handlers.now) }
 {
     for place in 0..handlers.len() {
         if !is_handled(alloc, image, &handlers[place], looked, around)? {
@@ -404,7 +411,7 @@ fn is_handled(
     requires written { around.writes.regions.now ≡ image.now.regions }
     requires anew { (at : ℕ) → is_marked around.anew.now at ≡ true → Has around.main.now at nothing_known nothing_beside (Some []) }
     requires writes { AreWriteEnds around.writes.regions.now around.writes.marks.now around.writes.ends.now }
-    ensures { IfOk result (λ handled. handled ≡ true → IsHandled image.now around.entry.main.now (is_marked around.entry.writes.marks.now) (is_marked looked.entry.quiet.now) around.entry.places.now around.entry.listed.now around.entry.most handler.now) }
+    ensures { IfOk result (λ handled. handled ≡ true → IsHandledAround image.now around.entry (is_marked looked.entry.quiet.now) handler.now) }
 {
     let program = ImageCode::new(alloc, image)?;
     let ends = find_data_ends(alloc, &image.regions)?;

@@ -300,7 +300,8 @@ pub fn stack_then(
     known: Known,
     bytes: Option<&[ByteSpan]>,
 ) -> Result<StackAfter, AllocError>
-    ensures { IfOk result (λ after. after_of after ≡ stack_then bounds found.instr taken found.next known (option_map (λ bytes. bytes.now) bytes.entry)) }
+    ensures { IfOk result (λ after. after_of after ≡ stack_then bounds found.instr taken found.next known (option_map
+        (λ bytes. bytes.now) bytes.entry)) }
 {
     match bytes {
         None => set_stack(alloc, bounds, found.instr),

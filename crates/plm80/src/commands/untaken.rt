@@ -71,7 +71,8 @@ fn arguments_of_all<'a>(
     all: &[Syntax<'a>],
     boarded: bool,
 ) -> Result<Vec<Vec<Argument<'a>>>, AllocError>
-    ensures { IfOk result (λ kept. map (λ arguments. map rule_of_argument arguments.items) kept.items ≡ map (λ syntax. filter_map (rule_beside boarded) (map rule_of_argument syntax.arguments.now)) all.now) }
+    ensures { IfOk result (λ kept. map (λ arguments. map rule_of_argument arguments.items) kept.items ≡ map (λ syntax. filter_map
+        (rule_beside boarded) (map rule_of_argument syntax.arguments.now)) all.now) }
 {
     let mut kept = Vec::new(alloc);
     for syntax in all {
@@ -148,7 +149,8 @@ fn with_arguments<'a>(
     arguments: &'a [Vec<Argument<'static>>],
     boarded: bool,
 ) -> Result<Vec<Syntax<'a>>, AllocError>
-    requires { map (λ of. map rule_of_argument of.items) arguments.now ≡ map (λ syntax. filter_map (rule_beside boarded) (map rule_of_argument syntax.arguments.now)) all.now }
+    requires { map (λ of. map rule_of_argument of.items) arguments.now ≡ map (λ syntax. filter_map (rule_beside boarded)
+        (map rule_of_argument syntax.arguments.now)) all.now }
     ensures { IfOk result (λ kept. map shape_of_syntax kept.items ≡ map (beside boarded) (map shape_of_syntax all.now)) }
 {
     let mut kept = Vec::new(alloc);

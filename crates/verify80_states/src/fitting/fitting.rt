@@ -118,7 +118,8 @@ impl Fit<'_> {
 
     /// Whether a hint names a state at `to` for each byte that A may be, which says no more than `state` with this byte in A.
     fn has_each(&self, hint: u32, to: u16, state: State) -> bool
-        ensures { result ≡ true → (byte : ℕ) → ByteWithin state.known.a byte → Has self.now.variables.now self.now.table.now to (cut_state state (byte_alone byte)) }
+        ensures { result ≡ true → (byte : ℕ) → ByteWithin state.known.a byte →
+            Has self.now.variables.now self.now.table.now to (cut_state state (byte_alone byte)) }
     {
         let Some(first) = self.hints.get(hint as usize) else {
             return false;
@@ -146,7 +147,8 @@ impl Fit<'_> {
         taken: bool,
         left: Option<State>,
     ) -> bool
-        ensures { result ≡ true → CoversAfter self.now.variables.now self.now.table.now to (λ t. state_after self.now.code.now found.instr taken found.next t) left }
+        ensures { result ≡ true → CoversAfter self.now.variables.now self.now.table.now to
+            (λ t. state_after self.now.code.now found.instr taken found.next t) left }
     {
         match left {
             None => true,
@@ -212,14 +214,16 @@ impl Fit<'_> {
 
     /// Whether each state of the table fits the instruction at its address.
     fn all_fit(&self) -> bool
-        ensures { result ≡ true → All (FitsWhereReached self.now.regions.now self.now.code.now (returns_of self.now.returns.now) self.now.reached.now self.now.variables.now self.now.table.now) self.now.table.now }
+        ensures { result ≡ true → All (FitsWhereReached self.now.regions.now self.now.code.now
+            (returns_of self.now.returns.now) self.now.reached.now self.now.variables.now self.now.table.now) self.now.table.now }
     {
         self.table.iter().all(|placed| self.placed_fits(*placed))
     }
 
     /// Whether a state of the table fits the instruction at its address; true if none is reached there.
     fn placed_fits(&self, placed: Placed) -> bool
-        ensures { result ≡ true → FitsWhereReached self.now.regions.now self.now.code.now (returns_of self.now.returns.now) self.now.reached.now self.now.variables.now self.now.table.now placed }
+        ensures { result ≡ true → FitsWhereReached self.now.regions.now self.now.code.now
+            (returns_of self.now.returns.now) self.now.reached.now self.now.variables.now self.now.table.now placed }
     {
         match entry_at(self.reached, placed.at) {
             Some(found) => {
@@ -242,7 +246,8 @@ impl Fit<'_> {
     /// address need not know it.
     fn keeps_returns(&self, placed: Placed, found: Fetched) -> bool
         ensures { result ≡ true → (returns_of self.now.returns.now).known placed.at ≡ true →
-            KnowsReturnsOf self.now.variables.now self.now.table.now (λ t. state_after self.now.code.now found.instr true found.next t) placed.state (flow found.instr) }
+            KnowsReturnsOf self.now.variables.now self.now.table.now (λ t. state_after self.now.code.now found.instr true found.next t) placed.state
+            (flow found.instr) }
     {
         if !self.returns.know_return(placed.at) {
             return true;
@@ -259,7 +264,8 @@ impl Fit<'_> {
 
     /// Whether a state knows where a return that is taken goes, and the table covers what comes of the state there.
     fn knows_return(&self, hint: u32, found: Fetched, state: State) -> bool
-        ensures { result ≡ true → KnowsReturn self.now.variables.now self.now.table.now (λ t. state_after self.now.code.now found.instr true found.next t) state }
+        ensures { result ≡ true → KnowsReturn self.now.variables.now self.now.table.now
+            (λ t. state_after self.now.code.now found.instr true found.next t) state }
     {
         match state.words.first {
             Some(word) => {
@@ -274,7 +280,8 @@ impl Fit<'_> {
     /// call, or if no return comes or each is known.
     fn keeps_behind(&self, placed: Placed, found: Fetched) -> bool
         ensures { result ≡ true → (entry : ℕ) → CallsEntry (flow found.instr) entry → (returns_of self.now.returns.now).may entry ≡ true →
-            (returns_of self.now.returns.now).known entry ≡ false → Has self.now.variables.now self.now.table.now found.next (unknown_but placed.state.known.set) }
+            (returns_of self.now.returns.now).known entry ≡ false → Has self.now.variables.now self.now.table.now found.next
+            (unknown_but placed.state.known.set) }
     {
         let Fetched { instr, next } = found;
         let Placed { at: _, state, hint } = placed;

@@ -4,7 +4,7 @@ use Rattle.std.proofs.lemmas.Result.{IfOk-weaker}
 use Rattle.image80.specs.declared.range.Range.{Range}
 use Rattle.verify80_stores.specs.Boards.{is_quiet}
 use Rattle.verify80_follow.specs.declared.handling.Handler.{Handler}
-use Rattle.verify80_follow.specs.{Fitting.AreFit, Live.PromiseOfLive, Live.handler_bounds, Reaching.AreListed, Reaching.places_of}
+use Rattle.verify80_follow.specs.{Reaching.AreListed, Reaching.places_of, Tables.AreFit, Tables.PromiseOfTables}
 use Rattle.plm80_programs.specs.Following.{KeepsLivePromise}
 use Rattle.plm80_programs.proofs.finding.keep_live_promise.Goals as goal
 
@@ -14,8 +14,7 @@ returns c =
     let found = c.args.found.now in
     let quiet = is_quiet image.regions c.args.quiet.now in
     let Kept : (writes : List Range) (handlers : List Handler) (addresses : List ℕ) (most : ℕ) → Type 0 = λ (writes : List Range) (handlers : List Handler) (addresses : List ℕ) (most : ℕ).
-    PromiseOfLive image quiet found.is_set addresses (places_of found.table handlers) found.table.ways.items found.table.listed found.table.bytes
-    (handler_bounds image.regions writes most handlers) in
+    PromiseOfTables image quiet (is_quiet image.regions writes) found.is_set found.table handlers addresses most in
     let All3 : (writes : List Range) (handlers : List Handler) → Type 0 = λ (writes : List Range) (handlers : List Handler).
     Kept writes handlers (map (λ (handler : Handler). handler.at) handlers) found.most
     × (All (λ (handler : Handler). Kept writes handlers (handler.at ∷ []) handler.table.bytes) handlers

@@ -4,7 +4,7 @@ use Rattle.image80.specs.declared.range.Range.{Range}
 use Rattle.image80_text.specs.NameText.{named_text}
 use Rattle.verify80_follow.specs.FollowText.{live_lines}
 use Rattle.verify80_follow.specs.declared.handling.Handler.{Handler}
-use Rattle.plm80_programs.specs.Following.{PrintsTable}
+use Rattle.plm80_programs.specs.Following.{PrintsTable, first_live_lines}
 use Rattle.plm80_programs.proofs.FollowLemmas.{room_is}
 use Rattle.plm80_programs.proofs.follow.answer_of_live.Goals as goal
 
@@ -21,7 +21,7 @@ returns c =
     ∙ ap (λ (l : List Handler). live_lines l c.deref-2.result.now states found.table.bytes c.stack-room.result.length found.most) c.deref.ensures.value
     ∙ ap (λ (l : List Range). live_lines found.handlers.items l states found.table.bytes c.stack-room.result.length found.most) c.deref-2.ensures.value
     ∙ ap (λ n. live_lines found.handlers.items found.writes.items states found.table.bytes n found.most) room in
-    subst (λ (h : List Handler). IfOk c.answer_of_tables.result (PrintsTable (named_text image.regions.code names (codes "HANDLER ") (live_lines found.handlers.items found.writes.items states found.table.bytes image.regions.stack.length found.most)) asked.quiet.now asked.lists image names found.table h found.is_set))
+    subst (λ (h : List Handler). IfOk c.answer_of_tables.result (PrintsTable (first_live_lines image names found) asked.quiet.now asked.lists image names found.table h found.is_set))
     c.deref-3.ensures.value
     (subst (λ (first : List ℕ). IfOk c.answer_of_tables.result (PrintsTable first asked.quiet.now asked.lists image names found.table c.deref-3.result.now found.is_set))
     (c.in_ok-first-2.ensures.named ∙ ap (λ (r : List Range). named_text r names (codes "HANDLER ") c.in_ok-first.first.items) code ∙ ap (named_text image.regions.code names (codes "HANDLER ")) lines) c.answer_of_tables.ensures)

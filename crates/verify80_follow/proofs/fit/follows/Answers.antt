@@ -2,7 +2,7 @@ use Rattle.std.specs.Prelude.{◌≡◌, ℕ, Bool, true, List, []}
 use Rattle.std.proofs.Common.{subst}
 use Rattle.image80.specs.Image.{Located}
 use Rattle.verify80_states.specs.{Marks.is_marked, QuietBoards.is_quiet}
-use Rattle.verify80_follow.specs.{Fitting.IsFit, Promise.PromiseOf, Reaching.places_of}
+use Rattle.verify80_follow.specs.{Promise.PromiseOf, Reaching.places_of, Tables.IsFit}
 use Rattle.verify80_follow.proofs.FitLemmas.{fit_of_more, ok_maps, promise_of_more}
 use Rattle.verify80_follow.proofs.fit.follows.Goals as goal
 

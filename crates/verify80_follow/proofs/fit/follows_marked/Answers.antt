@@ -2,7 +2,7 @@ use Rattle.std.specs.Prelude.{◌≡◌, ◌≤◌, ℕ, List, [], Contains, tru
 use Rattle.std.proofs.Common.{subst, ◌∙◌}
 use Rattle.verify80_states.specs.Marks.{is_marked}
 use Rattle.verify80_follow.specs.declared.calls.Summary.{Summary}
-use Rattle.verify80_follow.specs.{Fitting.IsFit, Follows.Follows, Follows.places_among, Follows.ways_of, Promise.PromiseOf, Reaching.places_of}
+use Rattle.verify80_follow.specs.{Follows.Follows, Follows.places_among, Follows.ways_of, Promise.PromiseOf, Reaching.places_of, Tables.IsFit}
 use Rattle.verify80_follow.proofs.{FitLemmas.ok_maps, PlaceLemmas.program_placed}
 use Rattle.verify80_follow.proofs.fit.follows_marked.Goals as goal
 

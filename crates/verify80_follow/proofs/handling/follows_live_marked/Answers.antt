@@ -3,8 +3,8 @@ use Rattle.std.proofs.Common.{arith, get_or, refl, subst, ◌∙◌}
 use Rattle.verify80_states.specs.Marks.{is_marked}
 use Rattle.verify80_follow.specs.declared.{calls.Summary.Summary, handling.Handler.Handler}
 use Rattle.verify80_follow.specs.{Follows.Follows, Follows.places_among, Follows.ways_of, Handling.HandlesAmong, Handling.IsHandled, Reaching.places_of}
-use Rattle.verify80_follow.specs.{Fitting.AreFit}
-use Rattle.verify80_follow.specs.Live.{HandlerBounds, PromiseOfLive, handler_ways}
+use Rattle.verify80_follow.specs.Live.{HandlerBounds, handler_ways}
+use Rattle.verify80_follow.specs.Tables.{AreFit, PromiseOfTables}
 use Rattle.verify80_follow.proofs.{FitLemmas.each_handled, FitLemmas.handled_alone, FitLemmas.ok_maps, PlaceLemmas.program_placed}
 use Rattle.verify80_follow.proofs.handling.follows_live_marked.Goals as goal
 
@@ -28,7 +28,7 @@ returns c =
     let Handled_at : List ℕ → Type 0 = λ (l : List ℕ). All (IsHandled image states written quiet l table.listed most) handlers in
     let Handled : Type 0 = Handled_at c.deref-2.result.now in
     let handled_at : Handled → Handled_at places = λ (h : Handled). subst Handled_at (c.deref-2.ensures.value ∙ c.in_ok-places.ensures) h in
-    let Kept : (addresses : List ℕ) (bytes : ℕ) → Type 0 = λ (addresses : List ℕ) (bytes : ℕ). PromiseOfLive image quiet c.args.is_set addresses places table.ways.items table.listed table.bytes (bounds bytes) in
+    let Kept : (addresses : List ℕ) (bytes : ℕ) → Type 0 = λ (addresses : List ℕ) (bytes : ℕ). PromiseOfTables image quiet written c.args.is_set table handlers addresses bytes in
     let Among : (bytes at : ℕ) → Type 0 = λ (bytes at : ℕ). HandlesAmong image states written quiet (handler_ways handlers) places table.listed bytes at in
     let kept : (addresses : List ℕ) (bytes : ℕ) → ((at : ℕ) → Contains addresses at → Among bytes at) → table.bytes + bytes ≤ image.regions.stack.length → Kept addresses bytes =
     λ (addresses : List ℕ) (bytes : ℕ) (tables : (at : ℕ) → Contains addresses at → Among bytes at) (fit : table.bytes + bytes ≤ image.regions.stack.length).

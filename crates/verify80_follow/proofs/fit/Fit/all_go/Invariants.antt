@@ -1,7 +1,7 @@
 use Rattle.std.specs.Prelude.{◌≡◌, ◌<◌, ℕ, Some, slice_get}
 use Rattle.verify80_follow.specs.declared.followed.FollowedState.{FollowedState}
 use Rattle.verify80_follow.specs.Follows.{Goes}
-use Rattle.verify80_follow.specs.Fitting.{fitting_of}
+use Rattle.verify80_follow.specs.Tables.{fitting_of}
 use Rattle.verify80_follow.proofs.fit.Fit.all_go.Given as goal
 
 abbrev pub invariant-loop-place : goal.invariant-loop-place

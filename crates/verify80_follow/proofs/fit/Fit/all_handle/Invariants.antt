@@ -2,7 +2,7 @@ use Rattle.std.specs.Prelude.{◌≡◌, ◌<◌, ℕ, Some, slice_get}
 use Rattle.verify80_states.specs.Marks.{is_marked}
 use Rattle.verify80_follow.specs.declared.followed.FollowedState.{FollowedState}
 use Rattle.verify80_follow.specs.Handling.{Handles}
-use Rattle.verify80_follow.specs.Fitting.{fitting_of}
+use Rattle.verify80_follow.specs.Tables.{fitting_of}
 use Rattle.verify80_follow.proofs.fit.Fit.all_handle.Given as goal
 
 abbrev pub invariant-loop-place : goal.invariant-loop-place

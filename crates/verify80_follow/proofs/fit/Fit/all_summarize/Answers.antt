@@ -2,7 +2,7 @@ use Rattle.std.specs.Prelude.{◌≡◌, Some, slice_get}
 use Rattle.std.proofs.Common.{arith, below_more, get_or, subst}
 use Rattle.std.proofs.lemmas.Option.{get_or_from_slice_get, slice_get-get_or}
 use Rattle.verify80_follow.specs.Follows.{Summarizes}
-use Rattle.verify80_follow.specs.Fitting.{fitting_of}
+use Rattle.verify80_follow.specs.Tables.{fitting_of}
 use Rattle.verify80_follow.proofs.fit.Fit.all_summarize.Goals as goal
 
 pub loop-place-preserved : goal.loop-place-preserved

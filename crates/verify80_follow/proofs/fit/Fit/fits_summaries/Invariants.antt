@@ -1,7 +1,7 @@
 use Rattle.std.specs.Prelude.{◌≡◌, ◌<◌, ℕ, Some, slice_get}
 use Rattle.verify80_follow.specs.declared.calls.Summary.{Summary}
 use Rattle.verify80_follow.specs.Follows.{FitsSummary}
-use Rattle.verify80_follow.specs.Fitting.{fitting_of}
+use Rattle.verify80_follow.specs.Tables.{fitting_of}
 use Rattle.verify80_follow.proofs.fit.Fit.fits_summaries.Given as goal
 
 abbrev pub invariant-loop-place : goal.invariant-loop-place

@@ -4,7 +4,7 @@ use Rattle.verify80_states.specs.Known.{nothing_known}
 use Rattle.verify80_follow.specs.declared.{followed.FollowedState.FollowedState, stack.StackBounds.StackBounds}
 use Rattle.verify80_follow.specs.Follows.{FitsSummary, Has, Summarizes, beside_call, entered_stack}
 use Rattle.verify80_follow.proofs.FitLemmas.{ok_maps}
-use Rattle.verify80_follow.specs.Fitting.{fitting_of}
+use Rattle.verify80_follow.specs.Tables.{fitting_of}
 use Rattle.verify80_follow.proofs.fit.Fit.fits_summary.Goals as goal
 
 pub returns : goal.returns

@@ -2,7 +2,7 @@ use Rattle.std.specs.Prelude.{◌≡◌, Bool, true, IfOk}
 use Rattle.std.proofs.Common.{subst, sym, ◌∙◌}
 use Rattle.decode80.specs.declared.flow.Flow.{Flow}
 use Rattle.verify80_follow.specs.Follows.{FollowsBy, JumpsBy}
-use Rattle.verify80_follow.specs.Fitting.{fitting_of}
+use Rattle.verify80_follow.specs.Tables.{fitting_of}
 use Rattle.verify80_follow.proofs.fit.Fit.follows_by.Goals as goal
 
 pub returns-in-JumpsToHl : goal.returns-in-JumpsToHl

@@ -4,7 +4,7 @@ use Rattle.std.proofs.lemmas.Option.{get_or_from_slice_get}
 use Rattle.verify80_spans.specs.Span.{Within}
 use Rattle.verify80_follow.specs.Follows.{CoversThen}
 use Rattle.verify80_follow.proofs.FitLemmas.{at_place}
-use Rattle.verify80_follow.specs.Fitting.{fitting_of}
+use Rattle.verify80_follow.specs.Tables.{fitting_of}
 use Rattle.verify80_follow.proofs.fit.Fit.jumps_to_each.Goals as goal
 
 pub loop-place-preserved : goal.loop-place-preserved

@@ -1,7 +1,7 @@
 use Rattle.std.specs.Prelude.{◌≡◌, ◌<◌, ℕ, Some, false, slice_get}
 use Rattle.verify80_spans.specs.Span.{Within}
 use Rattle.verify80_follow.specs.Follows.{CoversThen}
-use Rattle.verify80_follow.specs.Fitting.{fitting_of}
+use Rattle.verify80_follow.specs.Tables.{fitting_of}
 use Rattle.verify80_follow.proofs.fit.Fit.jumps_to_each.Given as goal
 
 abbrev pub invariant-loop-place : goal.invariant-loop-place

@@ -3,7 +3,7 @@ use Rattle.std.proofs.Common.{ap, refl, sym, ◌∙◌}
 use Rattle.decode80.specs.Facts.{flow}
 use Rattle.verify80_follow.specs.Follows.{PassesBy, ReturnsBack, is_return}
 use Rattle.verify80_follow.proofs.FitLemmas.{ok_maps}
-use Rattle.verify80_follow.specs.Fitting.{fitting_of}
+use Rattle.verify80_follow.specs.Tables.{fitting_of}
 use Rattle.verify80_follow.proofs.fit.Fit.returns_back.Goals as goal
 
 pub returns : goal.returns

@@ -3,7 +3,7 @@ use Rattle.std.proofs.Common.{refl}
 use Rattle.decode80.specs.Facts.{flow}
 use Rattle.verify80_follow.specs.Follows.{FollowsBy, StateFollows}
 use Rattle.verify80_follow.proofs.FitLemmas.{ok_maps}
-use Rattle.verify80_follow.specs.Fitting.{fitting_of}
+use Rattle.verify80_follow.specs.Tables.{fitting_of}
 use Rattle.verify80_follow.proofs.fit.Fit.state_follows.Goals as goal
 
 pub returns : goal.returns

@@ -5,7 +5,7 @@ use Rattle.verify80_states.specs.Known.{nothing_known}
 use Rattle.verify80_follow.specs.declared.held.Beside.{Beside}
 use Rattle.verify80_follow.specs.Follows.{Has, PassesBy, StepsOver, called}
 use Rattle.verify80_follow.proofs.FitLemmas.{ok_maps}
-use Rattle.verify80_follow.specs.Fitting.{fitting_of}
+use Rattle.verify80_follow.specs.Tables.{fitting_of}
 use Rattle.verify80_follow.proofs.fit.Fit.steps_over.Goals as goal
 
 pub returns : goal.returns

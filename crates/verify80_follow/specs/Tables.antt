@@ -3,8 +3,9 @@
 use Rattle.std.specs.Prelude.{◌≡◌, ◌≤◌, ◌+◌, ℕ, Bool, true, false, List, All}
 use Rattle.image80.specs.Image.{Located}
 use Rattle.verify80_states.specs.Marks.{is_marked}
-use Rattle.verify80_follow.specs.declared.{fit.Fit.Fit, fit.Table.Table, handling.Handler.Handler}
-use Rattle.verify80_follow.specs.{Follows.Fitting, Follows.Follows, Follows.fitting, Follows.ways_of, Handling.IsHandled, Reaching.places_of}
+use Rattle.verify80_follow.specs.declared.{fit.Fit.Fit, fit.Table.Table, handling.Around.Around, handling.Handler.Handler}
+use Rattle.verify80_follow.specs.{Follows.Fitting, Follows.Follows, Follows.fitting, Follows.ways_of, Handling.IsHandled, Live.PromiseOfLive}
+use Rattle.verify80_follow.specs.{Live.handler_ways, Reaching.places_of}
 
 -- what a fit holds
 abbrev pub fitting_of : Fit → Fitting
@@ -28,3 +29,14 @@ pub record AreFit (image : Located) (quiet written : ℕ → Bool) (is_set : Boo
   pub apart : (at : ℕ) → program.marked at ≡ true → writes at ≡ false
   pub handled : All (IsHandled image table.states.items writes program.marked (places_of table handlers) table.listed most) handlers
   pub room : table.bytes + most ≤ image.regions.stack.length
+
+-- what these tables promise on every live machine: only the handlers at the addresses answer interrupts, and they have no more bytes of stack
+abbrev pub PromiseOfTables : Located → (quiet written : ℕ → Bool) → (is_set : Bool) → Table → List Handler → (answering : List ℕ) → (bytes : ℕ) → Type 0
+PromiseOfTables image quiet written is_set table handlers answering bytes =
+    PromiseOfLive image quiet is_set answering (places_of table handlers) table.ways.items table.listed table.bytes
+    (record { written = written; bytes = bytes; ways = handler_ways handlers })
+
+-- a handler's own table follows it beside what all handlers are held against
+abbrev pub IsHandledAround : Located → Around → (quiet : ℕ → Bool) → Handler → Type 0
+IsHandledAround image around quiet =
+    IsHandled image around.main.now (is_marked around.writes.marks.now) quiet around.places.now around.listed.now around.most
