@@ -6,7 +6,7 @@
 #   make uninstall takes away what make install installed, with the same PREFIX
 #   make package   builds plm80 as `make run` does, and makes a Debian package of what make install installs, in out/; a tarball, if there is no dpkg-deb
 #   make test      proves every crate and runs every test
-#   make core      proves the core alone, with its wrong bodies and the tests of its crates: object files, LINK, LOCATE, the verifier, the loader and bundles
+#   make core      proves the core alone, with its wrong bodies and the tests of its crates: object files, LINK, LOCATE, the verifier, the loader and bundles; and builds its program, out/plm80_core, which runs a bundle
 #   make wrong     tries the wrong bodies that `make test` leaves out, since their crates' checks take long
 #   make commands  builds plm80 and runs the tests of its commands alone
 #   make faults    runs the tests, and plm80 on the examples, refusing one allocation, read or write at a time

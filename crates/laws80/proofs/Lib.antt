@@ -1,5 +1,2 @@
-pub mod LinkedLemmas
-pub mod InPlaceLemmas
-pub mod RebuiltLemmas
 pub mod BuiltLemmas
 pub mod SayingLemmas

@@ -1,3 +1,2 @@
-pub mod Rebuilt
 pub mod Built
 pub mod Migrated

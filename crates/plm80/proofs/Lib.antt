@@ -1,5 +1,4 @@
 mod ApartLemmas
 mod BesideLemmas
-mod BundleLemmas
 mod ProgramLemmas
 mod SpelledLemmas

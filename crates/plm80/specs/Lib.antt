@@ -1,4 +1,3 @@
 pub mod Apart
 pub mod CommandLine
 pub mod Requests
-pub mod Bundles

@@ -8,33 +8,21 @@
 //! | `commands` | the commands of the command line, with their arguments |
 #![tactic(auto)]
 
-ghost use Rattle.std.specs.Prelude.{◌≡◌, ◌<◌, ◌≤◌, true, false, length, map, string_bytes, IfErr, IfOk};
+ghost use Rattle.std.specs.Prelude.{◌≡◌, true, false, map, string_bytes};
 ghost use Rattle.std.specs.Process.{exit_status};
-ghost use Rattle.loader80_text.specs.{Bundle.BundleSends, Bundle.bundle_limit, BundleText.bundle_texts};
-ghost use Rattle.plm80.specs.Bundles.{GivesBundle, GivesUpBundle, IsBundleDone, and_fault, bundle_status};
+ghost use Rattle.plm80_bundles.specs.Bundles.{IsBundleDone};
 ghost use Rattle.plm80.specs.Requests.{IsCommandDone, asks_bundle};
 
-mod bundle_words;
 mod commands;
 
-use bundle_words::explain_bundle;
 use commands::{explain_if, refuse_arguments, run_command};
-use loader80::{Outcome, SessionFault};
 pub use loader80_text::{BUNDLE_LIMIT, BundleFault, bundle};
-use plm80_console::{Console, Lack, Reported, exit_code};
+use plm80_console::Console;
 use plm80_host::HostConsole;
-use plm80_runs::{EndWords, status_of};
-use std::alloc::{AllocError, Global};
+use std::alloc::AllocError;
 use std::env;
 use std::io::{ErrorKind, IsTerminal};
 use std::process::ExitCode;
-use stream80::{Reading, Sink};
-
-/// The steps that a bundle's run makes at most.
-const STEPS: u64 = 1_000_000;
-
-/// The outputs that a bundle's run keeps at most.
-const OUTPUTS: usize = 65_536;
 
 /// Without arguments, or with `--why` alone, runs the bundle on standard input and writes its transcript to standard output; with
 /// arguments, does the command that they name.
@@ -91,62 +79,5 @@ fn run_bundle<C: Console>(console: &mut C, why: bool) -> ExitCode
     ensures { IsBundleDone (C.journal console.old) (C.journal console.new) (exit_status result) }
 {
     explain_if(console, why);
-    exit_code(transcribe(console))
-}
-
-/// Runs the bundle on standard input, prints its transcript, and gives the exit status.
-fn transcribe<C: Console>(console: &mut C) -> Result<u8, Reported>
-    ensures done { IfOk result (GivesBundle (C.journal console.old) (C.journal console.new)) }
-    ensures fault { IfErr result (λ _. GivesUpBundle (C.journal console.old) (C.journal console.new)) }
-{
-    let text = console.read_input(BUNDLE_LIMIT)?;
-    let mut output = console.output();
-    let answer = answer_of(console.alloc(), &text, &mut output);
-    let failure = console.take_back(output);
-    match bundle_status(answer) {
-        Ok(status) => {
-            if let Ok(outcome) = answer {
-                console.explain_any(EndWords::of(outcome.end, outcome.at));
-            }
-            Ok(status)
-        }
-        Err(fault) => {
-            let reported = report_bundle(console, fault);
-            explain_bundle(console, fault, &text, failure);
-            Err(reported)
-        }
-    }
-}
-
-/// Reports the fault of a bundle.
-fn report_bundle<C: Console>(console: &mut C, fault: BundleFault) -> Reported
-    ensures { C.journal console.new ≡ and_fault (C.journal console.old) fault }
-{
-    match fault {
-        BundleFault::Session(SessionFault::Memory) => console.report_memory(),
-        BundleFault::Session(SessionFault::Write) => console.report(Lack::Write),
-        BundleFault::Session(SessionFault::Read(_)) => console.report(Lack::ReadInput),
-        _ => console.blame(fault),
-    }
-}
-
-/// Runs the bundle of this text, and writes its transcript to `out`: how the run ended, or the bundle's fault.
-fn answer_of<K: Sink>(alloc: Global, text: &[u8], out: &mut K) -> Result<Outcome, BundleFault>
-    requires countable { K.failed out.old < u64.MAX }
-    requires within { length text.now ≤ bundle_limit }
-    ensures { BundleSends 65536 1000000 (bundle_texts text.now) result (K.written out.old) (K.written out.new) }
-{
-    let mut input = Reading::new(text);
-    bundle(alloc, &mut input, out, STEPS, OUTPUTS)
-}
-
-/// The exit status of a bundle's answer: that of the run, or 1 of a refusal; any other fault is left a fault.
-fn bundle_status(answer: Result<Outcome, BundleFault>) -> Result<u8, BundleFault>
-    ensures { result ≡ bundle_status answer }
-{
-    match answer {
-        Ok(outcome) => Ok(status_of(outcome.end)),
-        Err(BundleFault::Session(SessionFault::Refused(_))) => Ok(1),
-        Err(fault) => Err(fault),
-    }
+    plm80_bundles::run_bundle(console)
 }

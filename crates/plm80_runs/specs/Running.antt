@@ -27,7 +27,7 @@ use Rattle.plm80_runs.specs.declared.trace.TraceArguments.{TraceArguments}
 use Rattle.plm80_runs.specs.declared.run_arguments.RunTexts.{RunTexts}
 use Rattle.plm80_runs.specs.declared.run_arguments.SpanTexts.{SpanTexts}
 use Rattle.plm80_runs.specs.Arguments.{dump_of}
-use Rattle.plm80_runs.specs.Status.{end_status}
+use Rattle.plm80_bundles.specs.Status.{end_status}
 
 -- where a program's run on some inputs begins
 abbrev pub start_of : Voucher → List (ℕ × ℕ) → World

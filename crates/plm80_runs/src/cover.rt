@@ -8,12 +8,12 @@ ghost use Rattle.plm80_runs.specs.Running.{CountsRun, CoversFiles};
 
 use crate::board_files::BOARD_FOR_INPUTS;
 use crate::run_arguments::{INPUTS, LimitTexts, OUTPUTS, RunFiles, STEPS};
-use crate::status::{EndWords, status_of};
 use clap::ArgMatches;
 use image80::Image;
 use loader80::Vouched;
 use loader80_trace::{Limits, count_steps, cover};
 use machine80::Inputs;
+use plm80_bundles::{EndWords, status_of};
 use plm80_console::laws::faults_follow_reading;
 use plm80_console::{Answer, Console, Reported, Syntax};
 use plm80_files::{IMAGE, REGIONS};

@@ -4,10 +4,11 @@ ghost use Rattle.std.specs.Prelude.{◌≡◌, IfOk};
 ghost use Rattle.plm80_runs.specs.OnBoards.{board_ending, board_trace_ending};
 ghost use Rattle.plm80_runs.specs.Running.{ending, named_ending, trace_ending};
 
-use crate::status::{board_status_of, status_of};
+use crate::status::board_status_of;
 use image80::{Image, Range};
 use loader80::{Ended, Vouched, ending_text};
 use loader80_board::{BoardEnded, board_ending_text};
+use plm80_bundles::status_of;
 use plm80_console::Answer;
 use plm80_names::Names;
 use std::alloc::{AllocError, Global};

@@ -10,7 +10,6 @@
 //! | [`trace_among_devices`] | `trace --board`: the instructions of a run among the devices of a board |
 //! | [`cover_files`] | `cover`: the code, with how often a run began each instruction |
 //! | [`write_inputs_file`] | `inputs`: the text of a run's inputs, from words |
-//! | [`status_of`], [`EndWords`] | the exit status of a run; words on how it ended |
 #![tactic(auto)]
 
 mod board_cover;
@@ -34,5 +33,4 @@ pub use board_trace::{BoardTraceArguments, trace_among_devices};
 pub use cover::{COVER, CoverArguments, cover_files};
 pub use inputs::{INPUTS, InputsArguments, write_inputs_file};
 pub use run::{RUN, RunArguments, run_files};
-pub use status::{EndWords, status_of};
 pub use trace::{TRACE, TraceArguments, trace_files};

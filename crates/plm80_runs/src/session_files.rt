@@ -8,11 +8,11 @@ ghost use Rattle.plm80_runs.specs.Running.{AnswersSession, AnswersTexts, fault_f
 ghost use Rattle.plm80_runs.specs.Arguments.{run_paths};
 
 use crate::run_arguments::{RunFiles, RunTexts};
-use crate::status::{EndWords, status_of};
 use image80::laws::text_of_regions_is_read_as_itself;
 use image80_file::laws::one_image_reading;
 use loader80::{Outcome, SessionFault, session};
 use loader80_trace::Limits;
+use plm80_bundles::{EndWords, status_of};
 use plm80_console::{Console, Lack, ReadFile, Reported};
 use plm80_files::{UnreadBytes, explain_image, explain_inputs, explain_regions, place_of_regions};
 use std::alloc::Global;

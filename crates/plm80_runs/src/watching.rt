@@ -12,12 +12,12 @@ ghost use Rattle.plm80_names.specs.Fronts.{IsFirstOf, LeavesFront};
 
 use crate::endings::ending_of;
 use crate::run_arguments::RunFiles;
-use crate::status::EndWords;
 use loader80::{Ended, Vouched, front_text};
 use loader80_trace::{
     Finished, Limits, LineForm, Span, TraceFault, finish, memory_bytes, write_lines,
 };
 use machine80::{Inputs, PagedBus};
+use plm80_bundles::EndWords;
 use plm80_console::laws::faults_follow_reading;
 use plm80_console::{Answer, Console, Reported};
 use plm80_names::{Names, Verdict, judge, report_lines};

@@ -1,9 +1,10 @@
+use Rattle.std.proofs.Common.{subst}
 use Rattle.std.specs.Process.{exit_status}
-use Rattle.plm80.proofs.BundleLemmas.{bundle_done}
+use Rattle.plm80_console.specs.Journal.{Journal}
+use Rattle.plm80_bundles.specs.Bundles.{IsBundleDone}
 use Rattle.plm80.proofs.run_bundle.Goals as goal
 
 pub returns : goal.returns
 returns g c =
-    bundle_done c.transcribe.result (exit_status c.exit_code.result) (g.C.Console.journal c.args.console.now)
-    (g.C.Console.journal c.explain_if.new.console) (g.C.Console.journal c.transcribe.new.console) c.explain_if.ensures c.transcribe.ensures.done
-    c.transcribe.ensures.fault c.exit_code.ensures.answer c.exit_code.ensures.fault
+    subst (λ (j : Journal). IsBundleDone j (g.C.Console.journal c.run_bundle.new.console) (exit_status c.run_bundle.result)) c.explain_if.ensures
+    c.run_bundle.ensures

@@ -5,7 +5,7 @@ use Rattle.loader80.specs.declared.fault.SessionFault.TheVariants.{Read, Write, 
 use Rattle.loader80_text.specs.{Bundle.BundleSends, Bundle.bundle_limit, BundleText.bundle_texts}
 use Rattle.loader80_text.specs.declared.bundles.fault.BundleFault.{BundleFault, TheVariants.BadBundle, TheVariants.Session}
 use Rattle.plm80_console.specs.Journal.{IsTakenBack, Journal, and_input, and_printed}
-use Rattle.plm80.specs.Bundles.{GivesBundle, GivesUpBundle, IsBundleDone, SendsBundle}
+use Rattle.plm80_bundles.specs.Bundles.{GivesBundle, GivesUpBundle, IsBundleDone, SendsBundle}
 
 -- bytes that were known stay known
 stays_known : (texts : Option Texts) (said : Result Outcome BundleFault) → BundleSends 65536 1000000 texts said (Some []) None → ⊥
@@ -45,9 +45,7 @@ sends_bundle text said before None old read lent between within were same empty 
     absurd (stays_known (bundle_texts text) said (subst (λ (w : Option (List ℕ)). BundleSends 65536 1000000 (bundle_texts text) said w None) empty sends))
 
 -- a bundle that was run ends with the status of its answer, or with 2
-pub bundle_done : {E : Type 0} (done : Result ℕ E) (status : ℕ) (old between new : Journal) → between ≡ old → IfOk done (GivesBundle between new)
-    → IfErr done (λ _. GivesUpBundle between new) → IfOk done (λ given. status ≡ given) → IfErr done (λ _. status ≡ 2)
-    → IsBundleDone old new status
-bundle_done (Ok given) status old between new same gives up is two =
-    inl (subst (λ (j : Journal). GivesBundle j new status) same (subst (λ (n : ℕ). GivesBundle between new n) (sym is) gives))
-bundle_done (Err e) status old between new same gives up is two = inr (two, subst (λ (j : Journal). GivesUpBundle j new) same up)
+pub bundle_done : {E : Type 0} (done : Result ℕ E) (status : ℕ) (old new : Journal) → IfOk done (GivesBundle old new)
+    → IfErr done (λ _. GivesUpBundle old new) → IfOk done (λ given. status ≡ given) → IfErr done (λ _. status ≡ 2) → IsBundleDone old new status
+bundle_done (Ok given) status old new gives up is two = inl (subst (λ (n : ℕ). GivesBundle old new n) (sym is) gives)
+bundle_done (Err e) status old new gives up is two = inr (two, up)

@@ -32,9 +32,9 @@ use Rattle.laws80.specs.Built.{linked_bases, HoldsModules}
 use Rattle.rom80_find.specs.Dump.{DumpValue, dump_byte}
 use Rattle.rom80_find.specs.Chunks.{is_code}
 use Rattle.rom80_find.specs.LinkLaws.{LinkHasTheBytes, OnlyCodeCovers}
-use Rattle.laws80.specs.Rebuilt.{AreRebuilt, is_in_code}
-use Rattle.laws80.proofs.InPlaceLemmas.{PlacingLaws, Held, IsIn, code_contents, alone_contents}
-use Rattle.laws80.proofs.LinkedLemmas.{of_each, any_gives}
+use Rattle.rom80_laws.specs.Rebuilt.{AreRebuilt, is_in_code}
+use Rattle.rom80_laws.proofs.InPlaceLemmas.{PlacingLaws, Held, IsIn, code_contents, alone_contents}
+use Rattle.rom80_laws.proofs.LinkedLemmas.{of_each, any_gives}
 
 -- ---- a content is in CODE exactly if it is in the linked module
 

@@ -1,7 +1,7 @@
 use Rattle.std.proofs.Common.{sym, ◌∙◌, arith}
-use Rattle.plm80.specs.Bundles.GivesUpBundle.{within}
-use Rattle.plm80.proofs.BundleLemmas.{sends_bundle}
-use Rattle.plm80.proofs.transcribe.Goals as goal
+use Rattle.plm80_bundles.specs.Bundles.GivesUpBundle.{within}
+use Rattle.plm80_bundles.proofs.BundleLemmas.{sends_bundle}
+use Rattle.plm80_bundles.proofs.transcribe.Goals as goal
 
 pub returns-clause-fault : goal.returns-clause-fault
 returns-clause-fault g c =

@@ -1,5 +1,5 @@
-use Rattle.laws80.proofs.RebuiltLemmas.{rebuilt_laws, has_the_bytes, located_has, built_has}
-use Rattle.laws80.proofs.found.found_modules_are_rebuilt.Goals as goal
+use Rattle.rom80_laws.proofs.RebuiltLemmas.{rebuilt_laws, has_the_bytes, located_has, built_has}
+use Rattle.rom80_laws.proofs.found.found_modules_are_rebuilt.Goals as goal
 
 pub returns-clause-bytes : goal.returns-clause-bytes
 returns-clause-bytes c =

@@ -1,7 +1,7 @@
 //! Modules that are found in a dump, linked and located, have the dump's bytes in CODE. The law is ensured by a function that does
 //! nothing: a layer above that calls it has the law in its proof.
 
-ghost use Rattle.laws80.specs.Rebuilt.{BytesAreTheDumps, LocatedImageIsTheDumps, BuiltImageIsTheDumps};
+ghost use Rattle.rom80_laws.specs.Rebuilt.{BytesAreTheDumps, LocatedImageIsTheDumps, BuiltImageIsTheDumps};
 
 use link80::laws::{linked_module_keeps_rules, linking_keeps_bytes};
 use omf_model::laws::segments_are_kept;

@@ -5,7 +5,7 @@ use Rattle.loader80.specs.declared.fault.SessionFault.TheVariants.{Memory, Read,
 use Rattle.loader80_text.specs.{Bundle.BundleSends, Bundle.bundle_limit, BundleText.bundle_texts}
 use Rattle.loader80_text.specs.declared.bundles.fault.BundleFault.{BundleFault, TheVariants.Session}
 use Rattle.plm80_console.specs.Journal.{Journal, and_blamed, and_input, and_printed, and_reported}
-use Rattle.plm80_runs.specs.Status.{end_status}
+use Rattle.plm80_bundles.specs.Status.{end_status}
 
 -- its exit status: that of the run's end, or 1 of a refusal; every other fault has none
 abbrev pub bundle_status : Result Outcome BundleFault → Result ℕ BundleFault

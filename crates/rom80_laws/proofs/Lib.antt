@@ -1,0 +1,3 @@
+pub mod LinkedLemmas
+pub mod InPlaceLemmas
+pub mod RebuiltLemmas
