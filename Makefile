@@ -83,6 +83,7 @@ test: need-rt need-python3
 	@tests/examples/run
 	@tools/crates --check
 	@tools/manual --check
+	@tools/completion --check
 	@tools/clauses --check
 	@tools/statements --check
 	@tools/gate
