@@ -6,7 +6,7 @@ use Rattle.image80.specs.Image.{Located}
 use Rattle.image80.specs.Regions.{Areas}
 use Rattle.verify80_cases.specs.Suggested.{AreSuggested}
 use Rattle.verify80_suggest.specs.Bytes.{may_be_code}
-use Rattle.verify80_suggest.proofs.OrderLemmas.{each_joined}
+use Rattle.verify80_suggest.proofs.OrderLemmas.{AreApart, all_apart, each_joined}
 use Rattle.verify80_suggest.specs.Ranges.{Covers}
 use Rattle.verify80_suggest.specs.Suggestion.{Found, IsArranged, IsFound, IsSuggestion, IsWanted, with_regions}
 use Rattle.verify80_suggest.proofs.suggesting.suggest_regions.Goals as goal
@@ -19,6 +19,13 @@ arrange-requires-clause-by_address c = subst AreByAddress (sym c.deref-3.ensures
 
 pub arrange-requires-2-clause-by_address : goal.arrange-requires-2-clause-by_address
 arrange-requires-2-clause-by_address c = subst AreByAddress (sym c.deref-4.ensures.value) c.in_ok-cases.ensures.by_address
+
+pub joined-requires : goal.joined-requires
+joined-requires c =
+    let given = c.args.known.cases.now in
+    let tabled = c.in_ok-found.found.cases.items in
+    subst (λ ks. AreApart (given ++ ks)) (sym c.deref.ensures.value)
+    (all_apart c.in_ok-image-inside.field-0 given tabled (ap (λ (r : Areas). r.cases) c.in_ok-image-inside.ensures) c.requires.by_address c.in_ok-found.ensures.can_be_added)
 
 pub with_cases-requires-2-clause-each : goal.with_cases-requires-2-clause-each
 with_cases-requires-2-clause-each c =
