@@ -22,7 +22,7 @@ pub use Rattle.std.specs.Io.KnownBytes.{Appends}
 pub use Rattle.std.specs.List.{cons_option, range_with_len}
 pub use Rattle.std.specs.Prelude.{All, Bool, List, None, Option, Some, [], codes, false, filter, filter_map, if◌then◌else◌, length, suc, true, zero, ℕ, ◌++◌, ◌+◌, ◌<◌, ◌∷◌, ◌≡◌, ◌≤◌}
 pub use Rattle.stream80.specs.WholeText.{text_limit}
-pub use Rattle.verify80_cases.specs.Added.{AddsCases}
+pub use Rattle.verify80_cases.specs.Added.{AddsCases, CanBeAdded}
 pub use Rattle.verify80_cases.specs.Suggested.{Finding, IsFinding, IsSearched, case_of, is_open}
 pub use Rattle.verify80_cases.specs.declared.search.Note.{Note}
 pub use Rattle.verify80_suggest.specs.Suggestion.{IsSuggestion, with_regions}

@@ -26,6 +26,7 @@ use plm80_names::{NamedFiles, report_lines};
 use std::alloc::{AllocError, Global};
 use stream80::{Sink, write_all};
 use verify80::ImageCode;
+use verify80_cases::laws::found_cases_can_be_added;
 use verify80_cases::{Note, Search, SuggestedCase, regions_with_cases};
 
 /// The arguments of the command `cases`.
@@ -233,6 +234,7 @@ fn added_cases<'a>(
 ) -> Result<AddedCases<'a>, LengthFault>
     ensures { IfOk result (λ added. PrintsCases (Some path.now) image.now added.answer) }
 {
+    found_cases_can_be_added();
     let kept = kept_cases(alloc, image, &[])?;
     let text = regions_with_cases(alloc, &image.regions, &kept.cases)?;
     if text.len() > TEXT_LIMIT {

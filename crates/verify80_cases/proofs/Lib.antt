@@ -8,3 +8,4 @@ mod NoteLemmas
 mod TrailLemmas
 mod LeavesLemmas
 mod AddedLemmas
+mod FoundLemmas

@@ -1,11 +1,9 @@
 //! Regions with cases added.
 
-ghost use Rattle.std.specs.Prelude.{◌≡◌, ◌++◌, [], All, IsPermutation, None, IfOk, OnOk, map};
+ghost use Rattle.std.specs.Prelude.{◌≡◌, ◌++◌, [], IsPermutation, IfOk, OnOk, map};
 ghost use Rattle.std.specs.List.Sorted.{IsNonDecreasingBy};
-ghost use Rattle.image80.specs.Case.{AreByAddress, IsCase};
-ghost use Rattle.image80.specs.Regions.{targets_at};
 ghost use Rattle.image80.specs.RegionsText.{cases_text};
-ghost use Rattle.verify80_cases.specs.Added.{AddsCases, second_text};
+ghost use Rattle.verify80_cases.specs.Added.{AddsCases, CanBeAdded, second_text};
 
 use image80::laws::text_of_regions_is_read_as_itself;
 use image80::{Case, Regions, case_lines, write_regions2};
@@ -23,9 +21,7 @@ pub fn regions_with_cases(
     regions: &Regions,
     cases: &[Case],
 ) -> Result<Vec<u8>, AllocError>
-    requires by_address { AreByAddress cases.now }
-    requires each { All IsCase cases.now }
-    requires new { All (λ case. targets_at regions.now case.at ≡ None) cases.now }
+    requires { CanBeAdded regions.now cases.now }
     ensures { IfOk result (λ text. AddsCases regions.now cases.now text.items) }
 {
     text_of_regions_is_read_as_itself();

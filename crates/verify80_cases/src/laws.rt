@@ -1,5 +1,6 @@
-//! What holds of the definitions alone. The function does nothing: its contract is the law.
+//! What holds of the definitions alone. The functions do nothing: their contracts are the laws.
 
+ghost use Rattle.verify80_cases.specs.Added.{FoundCasesCanBeAdded};
 ghost use Rattle.verify80_cases.specs.Changes.{StepsLeaveTheRest};
 
 use machine80::laws::instructions_keep_to_facts;
@@ -12,3 +13,9 @@ pub fn steps_leave_the_rest()
 {
     instructions_keep_to_facts();
 }
+
+/// A law of what is found of an image's PCHLs, as [`Search`](crate::Search) finds it: the cases
+/// among it, by address, can be added to the image's regions.
+pub fn found_cases_can_be_added()
+    ensures { FoundCasesCanBeAdded }
+{}

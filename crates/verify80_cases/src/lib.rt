@@ -12,7 +12,7 @@
 //! | [`regions_with_cases`] | the text of regions to which cases are added |
 //! | [`find_reachable`] | the addresses that a program may reach, along the cases of its regions |
 //! | [`find_covered`] | the bytes of the instructions there |
-//! | [`laws`] | a law of the definitions, as a contract |
+//! | [`laws`] | laws of the definitions, as contracts |
 #![tactic(auto)]
 
 mod adding;

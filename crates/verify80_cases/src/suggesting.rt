@@ -2,6 +2,7 @@
 
 ghost use Rattle.std.specs.Prelude.{◌≡◌, ◌++◌, [], IfOk, OnOk};
 ghost use Rattle.std.specs.List.{cons_option};
+ghost use Rattle.verify80_cases.specs.Added.{CanBeAdded};
 ghost use Rattle.verify80_cases.specs.Suggested.{AreSuggested};
 
 use crate::search::{Note, Search};
@@ -31,6 +32,8 @@ pub struct Suggestions {
 /// What is reached begins at the start and at `entries`, follows each branch, goes on after each CALL whether it returns or not, and goes
 /// to the suggested targets: more than the verifier's walks do. Nothing rests on it, for a run that jumps elsewhere ends there.
 ///
+/// [`regions_with_cases`](crate::regions_with_cases) takes these cases and the image's regions.
+///
 /// # Errors
 /// `AllocError` only if memory runs out.
 pub fn suggest_cases(
@@ -38,7 +41,8 @@ pub fn suggest_cases(
     image: &Image,
     entries: &[u16],
 ) -> Result<Suggestions, AllocError>
-    ensures { IfOk result (λ found. AreSuggested image.now entries.now found.cases.items found.tableless.items found.notes.items) }
+    ensures suggested { IfOk result (λ found. AreSuggested image.now entries.now found.cases.items found.tableless.items found.notes.items) }
+    ensures can_be_added { IfOk result (λ found. CanBeAdded image.now.regions found.cases.items) }
 {
     let code = ImageCode::new(alloc, image)?;
     let search = Search::of(alloc, &code, entries)?;

@@ -33,11 +33,12 @@ fn repeated_address(cases: &[Case]) -> Option<u16>
     None
 }
 
-/// The cases that are given and those that are found, by address. No address may have one of each.
+/// The cases that are given and those that are found, by address. Each must have an address of its own.
 ///
 /// # Errors
-/// `AllocError` only if memory runs out, or if an address has two.
+/// `AllocError` only if memory runs out.
 pub(crate) fn joined(alloc: Global, given: &[Case], found: &[Case]) -> Result<Vec<Case>, AllocError>
+    requires { AllPairs (λ one other. one.at ≢ other.at) (given.now ++ found.now) }
     ensures permutation { IfOk result (λ cases. IsPermutation (given.now ++ found.now) cases.items) }
     ensures by_address { IfOk result (λ cases. AreByAddress cases.items) }
 {
@@ -46,7 +47,8 @@ pub(crate) fn joined(alloc: Global, given: &[Case], found: &[Case]) -> Result<Ve
     add_copies(alloc, &mut cases, found)?;
     match sort_cases(&mut cases) {
         None => Ok(cases),
-        Some(_) => Err(AllocError),
+        // Each case has an address of its own.
+        Some(_) => unreachable!(),
     }
 }
 

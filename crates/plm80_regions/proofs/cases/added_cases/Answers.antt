@@ -1,26 +1,14 @@
-use Rattle.plm80_regions.proofs.Names.{ℕ, List, [], ◌∷◌, ◌∙◌, ap, arith, refl, subst, DeclaredCase, Located, Areas, cases_text, AddsCases}
+use Rattle.plm80_regions.proofs.Names.{ℕ, List, [], ◌∷◌, ◌∙◌, ap, arith, refl, subst, sym, DeclaredCase, Located, Areas, cases_text, AddsCases, CanBeAdded}
 use Rattle.plm80_regions.proofs.Names.{behind_file, prints, notes_status}
-use Rattle.plm80_regions.proofs.Names.{All, None, sym, ◌≡◌}
-use Rattle.image80.specs.{Case.AreByAddress, Case.IsCase, Regions.targets_at}
-use Rattle.plm80_regions.proofs.FoundLemmas.{finds_by_address, finds_new, finds_rules}
+use Rattle.plm80_regions.proofs.FoundLemmas.{finds_can_be_added}
 use Rattle.plm80_regions.proofs.cases.added_cases.Goals as goal
 
-pub regions_with_cases-requires-clause-by_address : goal.regions_with_cases-requires-clause-by_address
-regions_with_cases-requires-clause-by_address c =
-    subst AreByAddress (sym c.deref.ensures.value)
-    (finds_by_address c.args.image.now [] c.in_ok-kept.kept.cases.items c.in_ok-kept.kept.notes.items c.in_ok-kept.ensures.found)
-
-pub regions_with_cases-requires-clause-each : goal.regions_with_cases-requires-clause-each
-regions_with_cases-requires-clause-each c =
-    subst (All IsCase) (sym c.deref.ensures.value)
-    (finds_rules c.args.image.now [] c.in_ok-kept.kept.cases.items c.in_ok-kept.kept.notes.items c.in_ok-kept.ensures.found)
-
-pub regions_with_cases-requires-clause-new : goal.regions_with_cases-requires-clause-new
-regions_with_cases-requires-clause-new c =
-    subst (λ (areas : Areas). All (λ (case : DeclaredCase). targets_at areas case.at ≡ None) c.deref.result.now)
-    (sym (ap (λ (i : Located). i.regions) c.image.view_is))
-    (subst (All (λ (case : DeclaredCase). targets_at c.args.image.now.regions case.at ≡ None)) (sym c.deref.ensures.value)
-    (finds_new c.args.image.now [] c.in_ok-kept.kept.cases.items c.in_ok-kept.kept.notes.items c.in_ok-kept.ensures.found))
+pub regions_with_cases-requires : goal.regions_with_cases-requires
+regions_with_cases-requires c =
+    let cases = c.in_ok-kept.kept.cases.items in
+    subst (λ (areas : Areas). CanBeAdded areas c.deref.result.now) (sym (ap (λ (i : Located). i.regions) c.image.view_is))
+    (subst (CanBeAdded c.args.image.now.regions) (sym c.deref.ensures.value)
+    (finds_can_be_added c.found_cases_can_be_added.ensures c.args.image.now [] cases c.in_ok-kept.kept.notes.items c.in_ok-kept.ensures.found))
 
 pub returns : goal.returns
 returns c =

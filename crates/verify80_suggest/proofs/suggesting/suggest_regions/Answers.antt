@@ -1,13 +1,12 @@
 use Rattle.std.proofs.Common.{◌≡◌, ◌∙◌, ap, refl, subst, sym}
 use Rattle.std.proofs.lemmas.Result.{IfOk-from_err}
-use Rattle.std.specs.Prelude.{ℕ, List, All, ◌++◌, IsPermutation}
-use Rattle.image80.specs.Case.{AreByAddress, DeclaredCase, IsCase}
+use Rattle.std.specs.Prelude.{All, ◌++◌, IsPermutation}
+use Rattle.image80.specs.Case.{AreByAddress, IsCase}
 use Rattle.image80.specs.Image.{Located}
 use Rattle.image80.specs.Regions.{Areas}
 use Rattle.verify80_cases.specs.Suggested.{AreSuggested}
-use Rattle.verify80_cases.specs.declared.search.Note.{Note}
 use Rattle.verify80_suggest.specs.Bytes.{may_be_code}
-use Rattle.verify80_suggest.proofs.OrderLemmas.{each_joined}
+use Rattle.verify80_suggest.proofs.OrderLemmas.{AreApart, all_apart, each_joined}
 use Rattle.verify80_suggest.specs.Ranges.{Covers}
 use Rattle.verify80_suggest.specs.Suggestion.{Found, IsArranged, IsFound, IsSuggestion, IsWanted, with_regions}
 use Rattle.verify80_suggest.proofs.suggesting.suggest_regions.Goals as goal
@@ -21,15 +20,19 @@ arrange-requires-clause-by_address c = subst AreByAddress (sym c.deref-3.ensures
 pub arrange-requires-2-clause-by_address : goal.arrange-requires-2-clause-by_address
 arrange-requires-2-clause-by_address c = subst AreByAddress (sym c.deref-4.ensures.value) c.in_ok-cases.ensures.by_address
 
-each_tabled : (image : Located) (entries : List ℕ) (cases : List DeclaredCase) (tableless : List ℕ) (notes : List Note) → AreSuggested image entries cases tableless notes → All IsCase cases
-each_tabled image entries cases tableless notes is = λ k d inside. (is.suggested.each k d inside).rules
+pub joined-requires : goal.joined-requires
+joined-requires c =
+    let given = c.args.known.cases.now in
+    let tabled = c.in_ok-found.found.cases.items in
+    subst (λ ks. AreApart (given ++ ks)) (sym c.deref.ensures.value)
+    (all_apart c.in_ok-image-inside.field-0 given tabled (ap (λ (r : Areas). r.cases) c.in_ok-image-inside.ensures) c.requires.by_address c.in_ok-found.ensures.can_be_added)
 
 pub with_cases-requires-2-clause-each : goal.with_cases-requires-2-clause-each
 with_cases-requires-2-clause-each c =
     let tabled = c.in_ok-found.found.cases.items in
     let cases = c.in_ok-cases.cases.items in
     subst (All IsCase) (sym c.deref-2.ensures.value)
-    (each_joined c.args.known.cases.now tabled cases c.requires.each (each_tabled _ _ tabled _ _ c.in_ok-found.ensures)
+    (each_joined c.args.known.cases.now tabled cases c.requires.each c.in_ok-found.ensures.can_be_added.each
     (subst (λ ks. IsPermutation (c.args.known.cases.now ++ ks) cases) c.deref.ensures.value c.in_ok-cases.ensures.permutation))
 
 pub arrange-requires-clause-each : goal.arrange-requires-clause-each
@@ -37,7 +40,7 @@ arrange-requires-clause-each c =
     let tabled = c.in_ok-found.found.cases.items in
     let cases = c.in_ok-cases.cases.items in
     subst (All IsCase) (sym c.deref-3.ensures.value)
-    (each_joined c.args.known.cases.now tabled cases c.requires.each (each_tabled _ _ tabled _ _ c.in_ok-found.ensures)
+    (each_joined c.args.known.cases.now tabled cases c.requires.each c.in_ok-found.ensures.can_be_added.each
     (subst (λ ks. IsPermutation (c.args.known.cases.now ++ ks) cases) c.deref.ensures.value c.in_ok-cases.ensures.permutation))
 
 pub arrange-requires-2-clause-each : goal.arrange-requires-2-clause-each
@@ -45,7 +48,7 @@ arrange-requires-2-clause-each c =
     let tabled = c.in_ok-found.found.cases.items in
     let cases = c.in_ok-cases.cases.items in
     subst (All IsCase) (sym c.deref-4.ensures.value)
-    (each_joined c.args.known.cases.now tabled cases c.requires.each (each_tabled _ _ tabled _ _ c.in_ok-found.ensures)
+    (each_joined c.args.known.cases.now tabled cases c.requires.each c.in_ok-found.ensures.can_be_added.each
     (subst (λ ks. IsPermutation (c.args.known.cases.now ++ ks) cases) c.deref.ensures.value c.in_ok-cases.ensures.permutation))
 
 pub returns-in_err-image-inside-4 : goal.returns-in_err-image-inside-4
@@ -71,7 +74,7 @@ returns c =
     let made : c.in_ok-image-inside-2.field-0 ≡ record base { cases = cases } =
     c.in_ok-image-inside-2.ensures ∙ ap (λ ks. record bare { cases = ks }) c.deref-2.ensures.value ∙ sym (ap (λ (r : Areas). record r { cases = cases }) begun) in
     let suggested : (i : Located) → i ≡ c.args.image.now → AreSuggested (with_regions i base) known.entries.now tabled tableless notes =
-    λ i is. subst (λ (v : Located). AreSuggested (with_regions v base) known.entries.now tabled tableless notes) (c.image.view_is ∙ sym is) c.in_ok-found.ensures in
+    λ i is. subst (λ (v : Located). AreSuggested (with_regions v base) known.entries.now tabled tableless notes) (c.image.view_is ∙ sym is) c.in_ok-found.ensures.suggested in
     let is_found : IsFound (with_regions c.args.image.now (record base { cases = cases })) known.entries.now ram survey =
     subst (λ (v : Located). IsFound (with_regions v (record base { cases = cases })) known.entries.now ram survey) c.image.view_is
     (subst (λ (r : Areas). IsFound (record { name = c.image.inside.name; chunks = c.image.inside.chunks.items; regions = r; start = c.image.inside.start }) known.entries.now ram survey) made c.in_ok-survey.ensures) in

@@ -3,8 +3,12 @@ use Rattle.image80.specs.RegionsText.{Refuses, Spells}
 use Rattle.verify80_suggest.proofs.WithCasesLemmas.{none_declared, only_memory, read_with}
 use Rattle.verify80_suggest.proofs.with_cases.with_cases.Goals as goal
 
-pub regions_with_cases-requires-clause-new : goal.regions_with_cases-requires-clause-new
-regions_with_cases-requires-clause-new c = none_declared c.args.regions.now c.args.cases.now c.requires.none
+pub regions_with_cases-requires : goal.regions_with_cases-requires
+regions_with_cases-requires c = record {
+  by_address = c.requires.by_address;
+  each = c.requires.each;
+  new = none_declared c.args.regions.now c.args.cases.now c.requires.none;
+}
 
 pub returns-in-Ok : goal.returns-in-Ok
 returns-in-Ok c =
