@@ -85,6 +85,13 @@ pub(crate) fn show_further(
     Ok(is_whole)
 }
 
+/// The start of a program, as the only address at which it begins.
+fn only_start(alloc: Global) -> Result<IndexSet<Option<u16>>, AllocError> {
+    let mut begins = IndexSet::new(alloc);
+    begins.insert(None)?;
+    Ok(begins)
+}
+
 /// The places of these refusals.
 fn places_of(alloc: Global, known: &[ShownRefusal]) -> Result<IndexSet<Place>, AllocError> {
     let mut places = IndexSet::new(alloc);
@@ -184,15 +191,15 @@ impl<'a, 'b> Conditioning<'a, 'b> {
         limit: usize,
         known: &[ShownRefusal],
     ) -> Result<Conditioning<'a, 'b>, AllocError> {
-        let mut begins = IndexSet::new(alloc);
-        begins.insert(None)?;
+        let begins = only_start(alloc)?;
+        let found = places_of(alloc, known)?;
         Ok(Conditioning {
             code,
             begins,
             passed: IndexSet::new(alloc),
             returning: IndexSet::new(alloc),
             calls: IndexMap::new(alloc),
-            found: places_of(alloc, known)?,
+            found,
             left: limit,
             is_whole: true,
         })

@@ -6,7 +6,7 @@ ghost use Rattle.frames80.specs.Procedures.{slot_of};
 ghost use Rattle.std.specs.List.{filter_map};
 ghost use Rattle.verify80.specs.Looking.{code_of};
 ghost use Rattle.verify80_explain.specs.declared.conditions.Conditions.{Conditions};
-ghost use Rattle.verify80_explain.specs.Conditions.{code_from};
+ghost use Rattle.verify80_explain.specs.Conditions.{AreConditionsOf, MayBegin, code_from};
 ghost use Rattle.verify80_explain.specs.Order.{ArePointsInOrder, number_of};
 ghost use Rattle.verify80_walks.specs.Reached.{AreWalked};
 ghost use Rattle.verify80_explain.specs.Reaching.{AreReachedOn, AreRefusalsOf, IsReachedAt, IsReachedOn};
@@ -92,31 +92,98 @@ pub fn reach_all(alloc: Global, image: &Image, limit: usize) -> Result<Reach, Al
 {
     let code = ImageCode::new(alloc, image)?;
     let mut conditioning = Conditioning::new(alloc, &code, limit / 2, &[])?;
+    reach_on_found(alloc, &code, &mut conditioning, limit / 2)
+}
+
+/// Looks for conditions, and answers where walks stand on all of these; the limit is on what the points of the last searches weigh together.
+fn reach_on_found(
+    alloc: Global,
+    code: &ImageCode,
+    conditioning: &mut Conditioning<'_, '_>,
+    limit: usize,
+) -> Result<Reach, AllocError>
+    ensures { IfOk result (AreReachedOn (code_of code.now)) }
+{
+    let are_all = look_for_conditions(alloc, conditioning)?;
+    conditioning.allow(limit);
+    let begins = begins_of(alloc, code, conditioning)?;
+    let conditions = conditions_of(alloc, code, conditioning)?;
+    reach_on(alloc, code, conditioning, begins, conditions, are_all)
+}
+
+/// Looks for all conditions. Answers whether every search for them was followed to its end.
+fn look_for_conditions(
+    alloc: Global,
+    conditioning: &mut Conditioning<'_, '_>,
+) -> Result<bool, AllocError> {
     let mut candidates = Vec::new(alloc);
     let found = conditioning.look_for_all(alloc, &mut candidates);
-    let are_all = is_reached_within(found.map(|()| true))?;
-    conditioning.allow(limit / 2);
-    let found_begins = conditioning.begins(alloc)?;
-    let begins = keep_begins(alloc, &code, &found_begins)?;
-    let found_conditions = conditioning.all_from(alloc, 0)?;
-    let conditions = keep_conditions(alloc, &code, &conditioning.calls, &found_conditions)?;
+    is_reached_within(found.map(|()| true))
+}
+
+/// The addresses that were found at which the program may begin.
+fn begins_of(
+    alloc: Global,
+    code: &ImageCode,
+    conditioning: &Conditioning<'_, '_>,
+) -> Result<Vec<Option<u16>>, AllocError>
+    ensures { IfOk result (λ begins. All (MayBegin (code_of code.now)) begins.items) }
+{
+    let found = conditioning.begins(alloc)?;
+    keep_begins(alloc, code, &found)
+}
+
+/// The conditions that were found, for a program that begins at its start.
+fn conditions_of(
+    alloc: Global,
+    code: &ImageCode,
+    conditioning: &Conditioning<'_, '_>,
+) -> Result<Conditions, AllocError>
+    ensures { IfOk result (AreConditionsOf (code_of code.now)) }
+{
+    let found = conditioning.all_from(alloc, 0)?;
+    keep_conditions(alloc, code, &conditioning.calls, &found)
+}
+
+/// Where walks stand on conditions; `are_all` says whether all conditions were found.
+fn reach_on(
+    alloc: Global,
+    code: &ImageCode,
+    conditioning: &mut Conditioning<'_, '_>,
+    begins: Vec<Option<u16>>,
+    conditions: Conditions,
+    are_all: bool,
+) -> Result<Reach, AllocError>
+    requires begins { All (MayBegin (code_of code.now)) begins.items }
+    requires conditions { AreConditionsOf (code_of code.now) conditions }
+    ensures { IfOk result (AreReachedOn (code_of code.now)) }
+{
     let mut points = Vec::new(alloc);
-    let are_reached = reach_from_each(
-        alloc,
-        &code,
-        &mut conditioning,
-        &begins,
-        &conditions,
-        &mut points,
-    )?;
-    sort_points(&mut points)?;
-    let is_whole = are_all && are_reached && conditioning.is_whole();
+    let are_reached = reach_in_order(alloc, code, conditioning, &begins, &conditions, &mut points)?;
     Ok(Reach {
         begins,
         conditions,
         points,
-        is_whole,
+        is_whole: are_all && are_reached && conditioning.is_whole(),
     })
+}
+
+/// Appends where walks stand that begin at any of these addresses, on the conditions, and sorts all. Answers whether none is left out.
+fn reach_in_order(
+    alloc: Global,
+    code: &ImageCode,
+    conditioning: &mut Conditioning<'_, '_>,
+    begins: &[Option<u16>],
+    conditions: &Conditions,
+    points: &mut Vec<ReachedPoint>,
+) -> Result<bool, AllocError>
+    ensures reached { OnOk result (All (IsReachedOn (code_of code.now) begins.now conditions.now) points.old.items
+        → All (IsReachedOn (code_of code.now) begins.now conditions.now) points.new.items) }
+    ensures in_order { OnOk result (ArePointsInOrder points.new.items) }
+{
+    let are_reached = reach_from_each(alloc, code, conditioning, begins, conditions, points)?;
+    sort_points(points)?;
+    Ok(are_reached)
 }
 
 /// Sorts points by procedure, address, depth and refusal, and leaves each once.
